@@ -1,0 +1,3 @@
+pub mod Reception
+pub mod Layer
+pub mod Lines

@@ -1,0 +1,3 @@
+//! What a radio line and an outlet mean, and the bottoms over plain memory.
+pub mod line;
+pub mod symbol;
