@@ -7,7 +7,7 @@ ghost use lib.ListN.{length, take};
 
 /// Up to `N` octets.
 #[derive(Clone, Copy)]
-pub struct Buffer<const N: usize> {
+pub(crate) struct Buffer<const N: usize> {
     octets: [u8; N],
     count: usize,
     ghost long: { length octets ≡ N },
@@ -15,14 +15,14 @@ pub struct Buffer<const N: usize> {
 }
 
 impl<const N: usize> Buffer<N> {
-    pub fn empty() -> Self
+    pub(crate) fn empty() -> Self
         ensures holds { λ r. ⌜ take (r .count) (r .octets) ≡ [] ⌝ }
         ensures count { λ r. ⌜ r .count ≡ 0 ⌝ }
     {
         Buffer { octets: [0; N], count: 0 }
     }
 
-    pub fn as_slice(&self) -> &[u8]
+    pub(crate) fn as_slice(&self) -> &[u8]
         ensures { λ r. ⌜ now r ≡ take (now (self .entry) .count) (now (self .entry) .octets) ⌝ }
     {
         let all = &self.octets[..];
@@ -30,7 +30,7 @@ impl<const N: usize> Buffer<N> {
     }
 
     /// Adds all of `more`, or nothing where it does not fit.
-    pub fn append(&mut self, more: &[u8]) -> bool
+    pub(crate) fn append(&mut self, more: &[u8]) -> bool
         ensures fits { λ r. ⌜ r ≡ leb (now (self .entry) .count + length (now (more .entry))) N ⌝ }
         ensures same { λ r. ⌜ (r ≡ false → now (self .exit) ≡ now (self .entry)) ⌝ }
         ensures holds { λ r. ⌜ take (now (self .exit) .count) (now (self .exit) .octets) ≡ cond r (take (now (self .entry) .count) (now (self .entry) .octets) ++ now (more .entry)) (take (now (self .entry) .count) (now (self .entry) .octets)) ⌝ }

@@ -5,7 +5,7 @@ ghost use Prim.Native.Nat.{_+_, _<_, _≤_};
 ghost use lib.ListN.{length};
 ghost use Rattle.std.specs.Results.{Cases};
 ghost use Rattle.refusal.specs.declared.Refusal.the-variants.{Long};
-ghost use Rattle.message.specs.Message.{lawful, message};
+ghost use Rattle.message.specs.Message.{Format, lawful, message};
 ghost use Rattle.message.specs.Parts.{items};
 use crate::buffer::Buffer;
 use crate::header::Header;
@@ -36,9 +36,11 @@ impl Draft {
         if self.payload.append(octets) { Ok(()) } else { Err(Refusal::Long) }
     }
 
-    /// The message of the header and the payload, with Number and Sum to match.
+    /// The message of the header and the payload, with Number and Sum to match; it is lawful, as the format's
+    /// theorem says of every message of admissible fields, and there are no other lawful messages.
     pub fn seal(self) -> Sealed
-        ensures { λ r. ⌜ items (r .octets) ≡ message (self .header .kind) (self .header .destination) (self .header .source) (items (self .payload)) ⌝ }
+        ensures made { λ r. ⌜ items (r .octets) ≡ message (self .header .kind) (self .header .destination) (self .header .source) (items (self .payload)) ⌝ }
+        ensures format { λ r. ⌜ Format ⌝ }
     {
         Sealed::of(self.octets())
     }

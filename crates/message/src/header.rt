@@ -40,24 +40,6 @@ impl Header {
         Ok(Header { kind, destination, source })
     }
 
-    pub fn kind(&self) -> u8
-        ensures { λ r. ⌜ r ≡ now (self .entry) .kind ⌝ }
-    {
-        self.kind
-    }
-
-    pub fn destination(&self) -> Option<u16>
-        ensures { λ r. ⌜ r ≡ now (self .entry) .destination ⌝ }
-    {
-        self.destination
-    }
-
-    pub fn source(&self) -> u16
-        ensures { λ r. ⌜ r ≡ now (self .entry) .source ⌝ }
-    {
-        self.source
-    }
-
     /// Number, Type, Destination and Source of a message whose payload has `length` octets.
     pub(crate) fn head(&self, length: usize) -> Buffer<6>
         requires { ⌜ length ≤ 66 ⌝ }

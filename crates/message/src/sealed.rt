@@ -25,13 +25,20 @@ impl Sealed {
         ensures held { λ r. ⌜ now r ≡ items (now (self .entry) .octets) ⌝ }
         ensures lawful { λ r. ⌜ Lawful (now r) ⌝ }
     {
-        self.octets.as_slice()
+        self.message()
     }
 
     /// How many octets it has.
     pub fn length(&self) -> usize
         ensures { λ r. ⌜ r ≡ length (items (now (self .entry) .octets)) ⌝ }
     {
-        self.octets.as_slice().len()
+        self.octets().len()
+    }
+
+    fn message(&self) -> &[u8]
+        ensures held { λ r. ⌜ now r ≡ items (now (self .entry) .octets) ⌝ }
+        ensures lawful { λ r. ⌜ Lawful (now r) ⌝ }
+    {
+        self.octets.as_slice()
     }
 }

@@ -4,7 +4,7 @@ use Prim.Native.Nat.{ℕ}
 use Rattle.message.specs.Message.{Lawful}
 use Rattle.message.specs.Parts.{items}
 use Rattle.message.proofs.Format.{lawful-tested}
-use Rattle.message.proofs.sealed.Sealed.octets.Needs as need
+use Rattle.message.proofs.sealed.Sealed.message.Needs as need
 
 pub returns : need.returns
 returns c =
