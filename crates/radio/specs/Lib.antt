@@ -1,3 +1,4 @@
 pub mod Reception
 pub mod Layer
 pub mod Lines
+pub mod Piles

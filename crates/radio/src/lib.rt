@@ -1,3 +1,4 @@
 //! What a radio line and an outlet mean, and the bottoms over plain memory.
 pub mod line;
+pub mod piles;
 pub mod symbol;
