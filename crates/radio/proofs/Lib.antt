@@ -1,1 +1,3 @@
 pub mod Honesty
+pub mod AtBottom
+pub mod OctetSteps

@@ -2,3 +2,4 @@ pub mod Reception
 pub mod Layer
 pub mod Lines
 pub mod Piles
+pub mod HeardOctets
