@@ -10,19 +10,7 @@ use Rattle.refusal.specs.declared.Refusal.{Refusal}
 use Rattle.refusal.specs.declared.Refusal.the-variants.{Quiet}
 use Rattle.radio.specs.declared.symbol.Symbol.{Symbol}
 use Rattle.radio.specs.Reception.{Reception, Ending, ending-in, before}
-use Rattle.radio.specs.Lines.{Heard, at-bottom, found, opened, next, taken, ended}
-
-abbrev pub Opens : Heard → Result (Unit {0}) Refusal → Heard → Type 0
-Opens a r b = (r ≡ found (a .coming)) × (b ≡ opened a)
-
-abbrev pub Takes : Heard → Result (Option Symbol) Fault → Heard → Type 0
-Takes a r b = (r ≡ next (a .present)) × (b ≡ taken a)
-
-pub opens-none : (p : Reception) (cs : List Reception) → cs ≡ [] → Opens (at-bottom p cs) (Err Quiet) (at-bottom p cs)
-opens-none p cs e = subst (λ (z : List Reception). Opens (at-bottom p z) (Err Quiet) (at-bottom p z)) (sym e) (refl, refl)
-
-pub opens-next : (p q : Reception) (cs ds : List Reception) → cs ≡ q ∷ ds → Opens (at-bottom p cs) (Ok tt) (at-bottom q ds)
-opens-next p q cs ds e = subst (λ (z : List Reception). Opens (at-bottom p z) (Ok tt) (at-bottom q ds)) (sym e) (refl, refl)
+use Rattle.radio.specs.Lines.{Heard, at-bottom, found, opened, next, taken, ended, Takes}
 
 pub takes-end : (p : Reception) (cs : List Reception) (e : Ending) → p ≡ ending-in e → Takes (at-bottom p cs) (ended e) (at-bottom p cs)
 takes-end p cs e h = subst (λ (z : Reception). Takes (at-bottom z cs) (ended e) (at-bottom z cs)) (sym h) (refl, refl)

@@ -2,4 +2,5 @@ pub mod Reception
 pub mod Layer
 pub mod Lines
 pub mod Piles
+pub mod Standing
 pub mod HeardOctets

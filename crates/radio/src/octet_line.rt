@@ -1,12 +1,15 @@
 ghost use mathlib.Core.Bool.{true};
 ghost use mathlib.Core.List.{[], _∷_};
 ghost use mathlib.Core.Path.{_≡_};
-ghost use Prim.Native.Nat.{_≤_};
+ghost use Prim.Native.Nat.{_+_, _≤_};
 ghost use lib.ListN.{length, take, drop};
 ghost use Rattle.radio.specs.HeardOctets.{sign-here, receptions, reception-from, octets-heard, present-at};
-ghost use Rattle.radio.specs.Lines.{at-bottom, bottom-sound};
+ghost use Rattle.radio.specs.Lines.{at-bottom, bottom-sound, to-come};
 ghost use Rattle.radio.specs.Reception.{unopened};
+ghost use Rattle.radio.specs.Standing.{Stands};
 ghost use Rattle.std.specs.Options.{Cases};
+use crate::here::Here;
+use crate::here::heard_part;
 use crate::line::Line;
 use crate::symbol::Symbol;
 use crate::symbol::fault_at;
@@ -14,58 +17,66 @@ use refusal::Cause;
 use refusal::Fault;
 use refusal::Refusal;
 
-/// How many bytes a line hears at most.
-const LIMIT: usize = 65_536;
-
-/// The two octets of a sign.
+/// The two octets of a sign, and the octet that ends a reception whole.
 const SIGN_FIRST: u8 = 0xF0;
 
 const SIGN_SECOND: u8 = 0xCC;
 
-/// The octet that ends a reception whole.
 const END: u8 = 0x33;
 
 /// A line over bytes: F0 CC opens a reception, 33 ends it whole, every other byte is a clean symbol.
 #[derive(Drop)]
 pub struct OctetLine<'a> {
     bytes: &'a [u8],
-    /// Where the search for a sign and the taking of symbols stand.
+    /// Where taking stands, and where the search for the next sign begins.
     place: usize,
     /// How many symbols the present reception has given.
     given: usize,
     /// A reception has been opened.
     begun: bool,
-    /// No sign is left: known once the search has come to the end, so that no byte is searched twice.
+    /// The search has come to the end and found no sign: no byte is searched twice.
     quiet: bool,
     ghost within: { place ≤ length (bytes .now) },
     ghost counted: { given ≤ place },
-    ghost none: { (quiet ≡ true → length (receptions (drop place (bytes .now))) ≡ 0) },
 }
 
 impl<'a> OctetLine<'a> {
     /// A line over the first 65,536 bytes, or over all where there are fewer.
     pub fn new(bytes: &'a [u8]) -> OctetLine<'a>
-        ensures { λ r. ⌜ octets-heard (r .begun) (r .given) (r .place) (now (r .bytes)) ≡ at-bottom unopened (receptions (take 65536 (now (bytes .entry)))) ⌝ }
+        ensures { λ r. ⌜ octets-heard (r .begun) (r .quiet) (r .given) (r .place) (now (r .bytes)) ≡ at-bottom unopened (receptions (take 65536 (now (bytes .entry)))) ⌝ }
     {
-        let heard = if bytes.len() > LIMIT {
-            &bytes[0..LIMIT]
-        } else {
-            bytes
-        };
         OctetLine {
-            bytes: heard,
+            bytes: heard_part(bytes),
             place: 0,
             given: 0,
             begun: false,
             quiet: false,
         }
     }
+
+    /// What stands at the place of an opened line.
+    fn here(&self) -> Here
+        requires { ⌜ now self .begun ≡ true ⌝ }
+        ensures { λ r. ⌜ Stands r (now (self .entry) .given) (now (self .entry) .place + 1) (length (now (now (self .entry) .bytes))) (octets-heard (now (self .entry) .begun) (now (self .entry) .quiet) (now (self .entry) .given) (now (self .entry) .place) (now (now (self .entry) .bytes))) (octets-heard (now (self .entry) .begun) (now (self .entry) .quiet) (now (self .entry) .given + 1) (now (self .entry) .place + 1) (now (now (self .entry) .bytes))) ⌝ }
+    {
+        if self.place >= self.bytes.len() {
+            return Here::Nothing;
+        }
+        if sign_at(self.bytes, self.place) {
+            return Here::Sign;
+        }
+        let octet = self.bytes[self.place];
+        if octet == END {
+            return Here::End;
+        }
+        Here::Next(Symbol::Clean(octet))
+    }
 }
 
 pub impl<'a> Line for OctetLine<'a> as OctetLineLine {
-    ghost heard = { λ s. octets-heard (s .begun) (s .given) (s .place) (s .bytes .now) };
+    ghost heard = { λ s. octets-heard (s .begun) (s .quiet) (s .given) (s .place) (s .bytes .now) };
 
-    ghost sound = { λ s. bottom-sound (present-at (s .begun) (s .given) (drop (s .place) (s .bytes .now))) (receptions (drop (s .place) (s .bytes .now))) };
+    ghost sound = { λ s. bottom-sound (present-at (s .begun) (s .given) (drop (s .place) (s .bytes .now))) (to-come (s .quiet) (receptions (drop (s .place) (s .bytes .now)))) };
 
     fn open(&mut self) -> Result<(), Refusal> {
         if self.quiet {
@@ -85,19 +96,16 @@ pub impl<'a> Line for OctetLine<'a> as OctetLineLine {
         if !self.begun {
             return Err(fault_at(Cause::Dry, 0));
         }
-        if self.place >= self.bytes.len() {
-            return Err(fault_at(Cause::Dry, self.given));
+        match self.here() {
+            Here::Nothing => Err(fault_at(Cause::Dry, self.given)),
+            Here::Sign => Err(fault_at(Cause::Cut, self.given)),
+            Here::End => Ok(None),
+            Here::Next(symbol) => {
+                self.place += 1;
+                self.given += 1;
+                Ok(Some(symbol))
+            }
         }
-        if sign_at(self.bytes, self.place) {
-            return Err(fault_at(Cause::Cut, self.given));
-        }
-        let octet = self.bytes[self.place];
-        if octet == END {
-            return Ok(None);
-        }
-        self.place += 1;
-        self.given += 1;
-        Ok(Some(Symbol::Clean(octet)))
     }
 
     fn unit_of(&self) -> u16 {
