@@ -4,3 +4,5 @@ pub mod Lines
 pub mod Piles
 pub mod Standing
 pub mod HeardOctets
+pub mod HeardBits
+pub mod Looks

@@ -1,5 +1,6 @@
 ghost use mathlib.Core.Path.{_≡_};
-ghost use lib.ListN.{take};
+ghost use Prim.Native.Nat.{_≤_};
+ghost use lib.ListN.{length, take};
 use crate::symbol::Symbol;
 
 /// How many bytes a line hears at most.
@@ -20,7 +21,8 @@ pub(crate) enum Here {
 
 /// The bytes that a line hears.
 pub(crate) fn heard_part(bytes: &[u8]) -> &[u8]
-    ensures { λ r. ⌜ now r ≡ take 65536 (now (bytes .entry)) ⌝ }
+    ensures part { λ r. ⌜ now r ≡ take 65536 (now (bytes .entry)) ⌝ }
+    ensures short { λ r. ⌜ length (now r) ≤ 65536 ⌝ }
 {
     if bytes.len() > LIMIT {
         &bytes[0..LIMIT]

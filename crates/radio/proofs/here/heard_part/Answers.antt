@@ -3,4 +3,4 @@ use Rattle.std.proofs.shelf.Lists.{take-all}
 use Rattle.radio.proofs.here.heard_part.Needs as need
 
 pub returns-else-bytes-gt-LIMIT : need.returns-else-bytes-gt-LIMIT
-returns-else-bytes-gt-LIMIT c = sym (take-all 65536 (c .args .bytes .now) (c .if-bytes-gt-LIMIT .left))
+returns-else-bytes-gt-LIMIT c = record { part = sym (take-all 65536 (c .args .bytes .now) (c .if-bytes-gt-LIMIT .left)); short = c .if-bytes-gt-LIMIT .left }
