@@ -14,7 +14,7 @@ use Rattle.std.specs.declared.option.Option.the-variants.{Some, None}
 use Rattle.refusal.specs.declared.Cause.the-variants.{Dry, Cut}
 use Rattle.radio.specs.declared.symbol.Symbol.{Symbol}
 use Rattle.radio.specs.Reception.{Reception, whole, made-at, ending-in, before}
-use Rattle.radio.specs.HeardBits.{begins, same, sign, sign-here, sign-within, symbol-here, number-of, ends-it, next-in, reception-from, receptions}
+use Rattle.radio.specs.HeardBits.{begins, same, sign, sign-here, sign-within, symbol-here, number-of, ends-it, next-in, reception-from, receptions-from}
 use Rattle.radio.specs.Looks.{No-sign, First-of-ten}
 
 -- bits to pass are dropped
@@ -23,13 +23,13 @@ reception-pass zero n bits = refl
 reception-pass (suc k) n [] = refl
 reception-pass (suc k) n (b ∷ rest) = reception-pass k n rest
 
-receptions-pass : (k : ℕ) (bits : List Bool) → receptions k bits ≡ receptions 0 (drop k bits)
+receptions-pass : (k : ℕ) (bits : List Bool) → receptions-from k bits ≡ receptions-from 0 (drop k bits)
 receptions-pass zero bits = refl
 receptions-pass (suc k) [] = refl
 receptions-pass (suc k) (b ∷ rest) = receptions-pass k rest
 
 -- where no sign begins, the search goes on
-pub passed : (k : ℕ) (bits : List Bool) → No-sign k bits → receptions 0 bits ≡ receptions 0 (drop k bits)
+pub passed : (k : ℕ) (bits : List Bool) → No-sign k bits → receptions-from 0 bits ≡ receptions-from 0 (drop k bits)
 passed zero bits h = refl
 passed (suc k) [] h = refl
 passed (suc k) (b ∷ rest) h =
@@ -50,19 +50,19 @@ unfolding sign
 no-sign-end = refl
 
 -- behind a sign its reception starts
-at-sign : (bits : List Bool) → sign-here bits ≡ true → receptions 0 bits ≡ reception-from 0 0 (drop 20 bits) ∷ receptions 0 (drop 20 bits)
+at-sign : (bits : List Bool) → sign-here bits ≡ true → receptions-from 0 bits ≡ reception-from 0 0 (drop 20 bits) ∷ receptions-from 0 (drop 20 bits)
 at-sign [] e = absurd (false≢true (sym no-sign-end ∙ e))
 at-sign (b ∷ rest) e =
     cond-true (sign-here (b ∷ rest)) _ _ e
-    ∙ ap (λ r. r ∷ receptions 19 rest) (reception-pass 19 0 rest)
+    ∙ ap (λ r. r ∷ receptions-from 19 rest) (reception-pass 19 0 rest)
     ∙ ap (λ rs. reception-from 0 0 (drop 19 rest) ∷ rs) (receptions-pass 19 rest)
 
 pub found-at : (k : ℕ) (bits : List Bool) → sign-here (drop k bits) ≡ true → No-sign k bits →
-  (k + 20 ≤ length bits) × (receptions 0 bits ≡ reception-from 0 0 (drop (k + 20) bits) ∷ receptions 0 (drop (k + 20) bits))
+    (k + 20 ≤ length bits) × (receptions-from 0 bits ≡ reception-from 0 0 (drop (k + 20) bits) ∷ receptions-from 0 (drop (k + 20) bits))
 found-at k bits e h =
     let n = sign-fits (drop k bits) e in
     let l = length-drop k bits in
-    (omega arith, passed k bits h ∙ at-sign (drop k bits) e ∙ ap (λ r. reception-from 0 0 r ∷ receptions 0 r) (drop-drop 20 k bits))
+    (omega arith, passed k bits h ∙ at-sign (drop k bits) e ∙ ap (λ r. reception-from 0 0 r ∷ receptions-from 0 r) (drop-drop 20 k bits))
 
 -- the looks for a sign at k places
 pub none-within : (k : ℕ) (bits : List Bool) → No-sign k bits → sign-within k bits ≡ false
@@ -87,7 +87,7 @@ dry-at n [] e l = refl
 dry-at n (b ∷ rest) e l = cond-false (sign-within 10 (b ∷ rest)) _ _ e ∙ cond-true (ltb (length (b ∷ rest)) 10) _ _ (lt-ltb (length (b ∷ rest)) 10 l)
 
 pub next-at : (n : ℕ) (bits : List Bool) → sign-within 10 bits ≡ false → 10 ≤ length bits →
-  reception-from 0 n bits ≡ next-in (symbol-here bits) (reception-from 0 (n + 1) (drop 10 bits))
+    reception-from 0 n bits ≡ next-in (symbol-here bits) (reception-from 0 (n + 1) (drop 10 bits))
 next-at n [] e l = absurd (omega arith)
 next-at n (b ∷ rest) e l =
     cond-false (sign-within 10 (b ∷ rest)) _ _ e
@@ -146,7 +146,7 @@ whole-at n bits s h l e t =
     next-at n bits (none-within 10 bits h) l ∙ ap (λ v. next-in v rest) e ∙ cond-true (ends-it s) _ _ t
 
 pub symbol-at : (n : ℕ) (bits : List Bool) (s : Symbol) → No-sign 10 bits → 10 ≤ length bits → symbol-here bits ≡ s → ends-it s ≡ false →
-  reception-from 0 n bits ≡ before s (reception-from 0 (n + 1) (drop 10 bits))
+    reception-from 0 n bits ≡ before s (reception-from 0 (n + 1) (drop 10 bits))
 symbol-at n bits s h l e t =
     let rest = reception-from 0 (n + 1) (drop 10 bits) in
     next-at n bits (none-within 10 bits h) l ∙ ap (λ v. next-in v rest) e ∙ cond-false (ends-it s) _ _ t

@@ -98,7 +98,7 @@ append-low (suc k) m x y h =
     let o : odd x ≡ odd (x + 2 ^ suc k * y) = same-odd x (x + 2 ^ suc k * y) (omega arith) in
     let d : x / 2 + 2 ^ k * y ≡ (x + 2 ^ suc k * y) / 2 = omega arith in
     let t : low-bits k (x / 2) ++ low-bits m y ≡ low-bits (k + m) ((x + 2 ^ suc k * y) / 2) =
-        append-low k m (x / 2) y (omega arith) ∙ ap (low-bits (k + m)) d in
+    append-low k m (x / 2) y (omega arith) ∙ ap (low-bits (k + m)) d in
     let n : suc (k + m) ≡ suc k + m = omega arith in
     let u : odd x ∷ (low-bits k (x / 2) ++ low-bits m y) ≡ odd (x + 2 ^ suc k * y) ∷ low-bits (k + m) ((x + 2 ^ suc k * y) / 2) = cc in
     u ∙ ap (λ j. low-bits j (x + 2 ^ suc k * y)) n
@@ -135,10 +135,10 @@ little-at xs f =
     omega arith
 
 pub little-five : (xs : List ℕ) (f : ℕ) →
-  little (drop f xs) ≡ (getD xs f 0 + getD xs (f + 1) 0 * 256 + getD xs (f + 2) 0 * 65536 + getD xs (f + 3) 0 * 16777216 + getD xs (f + 4) 0 * 4294967296) + 1099511627776 * little (drop (f + 5) xs)
+    little (drop f xs) ≡ (getD xs f 0 + getD xs (f + 1) 0 * 256 + getD xs (f + 2) 0 * 65536 + getD xs (f + 3) 0 * 16777216 + getD xs (f + 4) 0 * 4294967296) + 1099511627776 * little (drop (f + 5) xs)
 little-five xs f =
     let at : (i j : ℕ) → f + i + 1 ≡ f + j → little (drop (f + i) xs) ≡ getD xs (f + i) 0 + 256 * little (drop (f + j) xs) =
-        λ i j e. little-at xs (f + i) ∙ ap (λ k. getD xs (f + i) 0 + 256 * little (drop k xs)) e in
+    λ i j e. little-at xs (f + i) ∙ ap (λ k. getD xs (f + i) 0 + 256 * little (drop k xs)) e in
     let a = little-at xs f in
     let b = at 1 2 (omega arith) in
     let c = at 2 3 (omega arith) in
@@ -168,8 +168,8 @@ same-window (suc (suc (suc (suc (suc (suc (suc zero))))))) w m h = omega arith
 same-window (suc (suc (suc (suc (suc (suc (suc (suc s)))))))) w m h = absurd (omega arith)
 
 pub window-at : (xs : List ℕ) → ((i : ℕ) → getD xs i 0 < 256) → (p w : ℕ) →
-  w ≡ getD xs (p / 8) 0 + getD xs (p / 8 + 1) 0 * 256 + getD xs (p / 8 + 2) 0 * 65536 + getD xs (p / 8 + 3) 0 * 16777216 + getD xs (p / 8 + 4) 0 * 4294967296 →
-  take 29 (low-bits (8 * length xs - p) ((w / 2 ^ (p % 8)) % 536870912)) ≡ take 29 (drop p (bits-of xs))
+    w ≡ getD xs (p / 8) 0 + getD xs (p / 8 + 1) 0 * 256 + getD xs (p / 8 + 2) 0 * 65536 + getD xs (p / 8 + 3) 0 * 16777216 + getD xs (p / 8 + 4) 0 * 4294967296 →
+    take 29 (low-bits (8 * length xs - p) ((w / 2 ^ (p % 8)) % 536870912)) ≡ take 29 (drop p (bits-of xs))
 window-at xs h p w e =
     let f = p / 8 in
     let s = p % 8 in
@@ -177,9 +177,9 @@ window-at xs h p w e =
     let whole : 8 * (p / 8) + p % 8 ≡ p = omega arith in
     let m : little (drop f xs) ≡ w + 1099511627776 * little (drop (f + 5) xs) = little-five xs f ∙ ap (λ v. v + 1099511627776 * little (drop (f + 5) xs)) (sym e) in
     let r : (w / 2 ^ s) % 536870912 ≡ (little (drop f xs) / 2 ^ s) % 536870912 =
-        same-window s w (little (drop (f + 5) xs)) (omega arith) ∙ ap (λ v. (v / 2 ^ s) % 536870912) (sym m) in
+    same-window s w (little (drop (f + 5) xs)) (omega arith) ∙ ap (λ v. (v / 2 ^ s) % 536870912) (sym m) in
     let b : drop p (bits-of xs) ≡ low-bits n (little (drop f xs) / 2 ^ s) =
-        subst (λ q. drop q (bits-of xs) ≡ low-bits (8 * length xs - q) (little (drop f xs) / 2 ^ s)) whole (bits-at xs h f s) in
+    subst (λ q. drop q (bits-of xs) ≡ low-bits (8 * length xs - q) (little (drop f xs) / 2 ^ s)) whole (bits-at xs h f s) in
     ap (λ v. take 29 (low-bits n v)) r ∙ take-low-mod 29 n (little (drop f xs) / 2 ^ s) ∙ ap (take 29) (sym b)
 
 -- a sign and a symbol by the number of their bits
@@ -192,5 +192,5 @@ symbol-low n x h =
     let a : getD (low-bits n x) 0 false ≡ odd x = getD-low 0 n x false (omega arith) ∙ ap odd (whole-of x) in
     let b : getD (low-bits n x) 9 true ≡ odd (x / 512) = getD-low 9 n x true (omega arith) in
     let v : number-of (take 8 (drop 1 (low-bits n x))) ≡ (x / 2) % 256 =
-        ap (λ l. number-of (take 8 l)) (drop-low 1 n x) ∙ ap number-of (take-low 8 (n - 1) (x / 2) (omega arith)) ∙ number-low 8 (x / 2) in
+    ap (λ l. number-of (take 8 l)) (drop-low 1 n x) ∙ ap number-of (take-low 8 (n - 1) (x / 2) (omega arith)) ∙ number-low 8 (x / 2) in
     cc

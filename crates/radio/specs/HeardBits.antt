@@ -8,6 +8,8 @@ use Rattle.refusal.specs.declared.Cause.the-variants.{Dry, Cut}
 use Rattle.radio.specs.declared.symbol.Symbol.{Symbol}
 use Rattle.radio.specs.declared.symbol.Symbol.the-variants.{Clean, Spoiled}
 use Rattle.radio.specs.Reception.{Reception, whole, made-at, ending-in, before, unopened}
+use Rattle.radio.specs.declared.here.Here.{Here}
+use Rattle.radio.specs.Standing.{Stands}
 use Rattle.radio.specs.Lines.{Heard, at-bottom, to-come}
 
 -- the n lowest bits of a number, the lowest first
@@ -73,15 +75,18 @@ abbrev pub reception-from : ℕ → ℕ → List Bool → Reception
 reception-from pass n [] = ending-in (made-at Dry n)
 reception-from (suc pass) n (b ∷ rest) = reception-from pass n rest
 reception-from zero n (b ∷ rest) =
-  cond (sign-within 10 (b ∷ rest)) (ending-in (made-at Cut n))
-  (cond (ltb (length (b ∷ rest)) 10) (ending-in (made-at Dry n))
-  (next-in (symbol-here (b ∷ rest)) (reception-from 9 (n + 1) rest)))
+    cond (sign-within 10 (b ∷ rest)) (ending-in (made-at Cut n))
+    (cond (ltb (length (b ∷ rest)) 10) (ending-in (made-at Dry n))
+    (next-in (symbol-here (b ∷ rest)) (reception-from 9 (n + 1) rest)))
 
--- every sign opens a reception, which starts behind its twenty bits; no other sign is looked for in them
-abbrev pub receptions : ℕ → List Bool → List Reception
-receptions pass [] = []
-receptions (suc pass) (b ∷ rest) = receptions pass rest
-receptions zero (b ∷ rest) = cond (sign-here (b ∷ rest)) (reception-from 19 0 rest ∷ receptions 19 rest) (receptions 0 rest)
+-- every sign opens a reception, which starts behind its twenty bits; in these no other sign is looked for
+abbrev pub receptions-from : ℕ → List Bool → List Reception
+receptions-from pass [] = []
+receptions-from (suc pass) (b ∷ rest) = receptions-from pass rest
+receptions-from zero (b ∷ rest) = cond (sign-here (b ∷ rest)) (reception-from 19 0 rest ∷ receptions-from 19 rest) (receptions-from 0 rest)
+
+abbrev pub receptions : List ℕ → List Reception
+receptions bytes = receptions-from 0 (bits-of bytes)
 
 -- what a bit line means that stands at a bit place of its bytes and has given n symbols: nothing is present before the
 -- first opening, and nothing is to come once no sign was found
@@ -90,4 +95,9 @@ present-at false n rest = unopened
 present-at true n rest = reception-from 0 n rest
 
 abbrev pub bits-heard : Bool → Bool → ℕ → ℕ → List ℕ → Heard
-bits-heard begun quiet n place bytes = at-bottom (present-at begun n (drop place (bits-of bytes))) (to-come quiet (receptions 0 (drop place (bits-of bytes))))
+bits-heard begun quiet n place bytes = at-bottom (present-at begun n (drop place (bits-of bytes))) (to-come quiet (receptions-from 0 (drop place (bits-of bytes))))
+
+-- what here stands at the place of a line that has been opened
+abbrev pub Bits-stand : Here → Bool → Bool → ℕ → ℕ → List ℕ → Type 0
+Bits-stand here begun quiet n place bytes =
+    Stands here n (place + 10) (8 * length bytes) (bits-heard begun quiet n place bytes) (bits-heard begun quiet (n + 1) (place + 10) bytes)

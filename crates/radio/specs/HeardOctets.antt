@@ -3,10 +3,12 @@ use mathlib.Core.List.{List, [], _∷_}
 use mathlib.Core.Bool.{Bool, true, false, _&&_, cond}
 use Prim.Native.Nat.{ℕ, _+_}
 use lib.Dec.{eqb}
-use lib.ListN.{drop}
+use lib.ListN.{length, drop}
 use Rattle.refusal.specs.declared.Cause.the-variants.{Dry, Cut}
 use Rattle.radio.specs.declared.symbol.Symbol.the-variants.{Clean}
 use Rattle.radio.specs.Reception.{Reception, whole, made-at, ending-in, before, unopened}
+use Rattle.radio.specs.declared.here.Here.{Here}
+use Rattle.radio.specs.Standing.{Stands}
 use Rattle.radio.specs.Lines.{Heard, at-bottom, to-come, tail}
 
 -- a sign starts here: F0, directly followed by CC
@@ -37,3 +39,8 @@ present-at true n rest = reception-from n rest
 
 abbrev pub octets-heard : Bool → Bool → ℕ → ℕ → List ℕ → Heard
 octets-heard begun quiet n place bytes = at-bottom (present-at begun n (drop place bytes)) (to-come quiet (receptions (drop place bytes)))
+
+-- what here stands at the place of a line that has been opened
+abbrev pub Octets-stand : Here → Bool → Bool → ℕ → ℕ → List ℕ → Type 0
+Octets-stand here begun quiet n place bytes =
+    Stands here n (place + 1) (length bytes) (octets-heard begun quiet n place bytes) (octets-heard begun quiet (n + 1) (place + 1) bytes)

@@ -3,20 +3,19 @@ ghost use mathlib.Core.List.{[], _∷_};
 ghost use mathlib.Core.Path.{_≡_};
 ghost use Prim.Native.Nat.{_+_, _*_, _≤_};
 ghost use lib.ListN.{length, take, drop};
-ghost use Rattle.radio.specs.HeardBits.{bits-of, receptions, reception-from, bits-heard, present-at};
+ghost use Rattle.radio.specs.HeardBits.{Bits-stand, bits-of, receptions, receptions-from, reception-from, bits-heard, present-at};
 ghost use Rattle.radio.specs.Lines.{at-bottom, bottom-sound, to-come};
 ghost use Rattle.radio.specs.Reception.{unopened};
-ghost use Rattle.radio.specs.Standing.{Stands};
 ghost use Rattle.std.specs.Options.{Cases};
 use crate::bits::ends_it;
 use crate::bits::first_sign;
 use crate::bits::framed;
 use crate::bits::window;
-use crate::here::heard_part;
 use crate::here::Here;
+use crate::here::heard_part;
 use crate::line::Line;
-use crate::symbol::fault_at;
 use crate::symbol::Symbol;
+use crate::symbol::fault_at;
 use refusal::Cause;
 use refusal::Fault;
 use refusal::Refusal;
@@ -42,7 +41,7 @@ pub struct BitLine<'a> {
 impl<'a> BitLine<'a> {
     /// A line over the first 65,536 bytes, or over all where there are fewer.
     pub fn new(bytes: &'a [u8]) -> BitLine<'a>
-        ensures { λ r. ⌜ bits-heard (r .begun) (r .quiet) (r .given) (r .place) (now (r .bytes)) ≡ at-bottom unopened (receptions 0 (bits-of (take 65536 (now (bytes .entry))))) ⌝ }
+        ensures { λ r. ⌜ bits-heard (r .begun) (r .quiet) (r .given) (r .place) (now (r .bytes)) ≡ at-bottom unopened (receptions (take 65536 (now (bytes .entry)))) ⌝ }
     {
         BitLine {
             bytes: heard_part(bytes),
@@ -56,7 +55,7 @@ impl<'a> BitLine<'a> {
     /// What stands at the place of an opened line.
     fn here(&self) -> Here
         requires { ⌜ now self .begun ≡ true ⌝ }
-        ensures { λ r. ⌜ Stands r (now (self .entry) .given) (now (self .entry) .place + 10) (8 * length (now (now (self .entry) .bytes))) (bits-heard (now (self .entry) .begun) (now (self .entry) .quiet) (now (self .entry) .given) (now (self .entry) .place) (now (now (self .entry) .bytes))) (bits-heard (now (self .entry) .begun) (now (self .entry) .quiet) (now (self .entry) .given + 1) (now (self .entry) .place + 10) (now (now (self .entry) .bytes))) ⌝ }
+        ensures { λ r. ⌜ Bits-stand r (now (self .entry) .begun) (now (self .entry) .quiet) (now (self .entry) .given) (now (self .entry) .place) (now (now (self .entry) .bytes)) ⌝ }
     {
         let bits = window(self.bytes, self.place);
         let left = (8 * self.bytes.len() - self.place) as u32;
@@ -77,7 +76,7 @@ impl<'a> BitLine<'a> {
 pub impl<'a> Line for BitLine<'a> as BitLineLine {
     ghost heard = { λ s. bits-heard (s .begun) (s .quiet) (s .given) (s .place) (s .bytes .now) };
 
-    ghost sound = { λ s. bottom-sound (present-at (s .begun) (s .given) (drop (s .place) (bits-of (s .bytes .now)))) (to-come (s .quiet) (receptions 0 (drop (s .place) (bits-of (s .bytes .now))))) };
+    ghost sound = { λ s. bottom-sound (present-at (s .begun) (s .given) (drop (s .place) (bits-of (s .bytes .now)))) (to-come (s .quiet) (receptions-from 0 (drop (s .place) (bits-of (s .bytes .now))))) };
 
     fn open(&mut self) -> Result<(), Refusal> {
         if self.quiet {
@@ -118,7 +117,7 @@ pub impl<'a> Line for BitLine<'a> as BitLineLine {
 fn behind_sign(bytes: &[u8], from: usize) -> Option<usize>
     requires short { ⌜ length (now bytes) ≤ 65536 ⌝ }
     requires within { ⌜ from ≤ 8 * length (now bytes) ⌝ }
-    ensures { λ r. ⌜ Cases r (receptions 0 (drop from (bits-of (now (bytes .entry)))) ≡ []) (λ p. (p ≤ 8 * length (now (bytes .entry))) × (receptions 0 (drop from (bits-of (now (bytes .entry)))) ≡ reception-from 0 0 (drop p (bits-of (now (bytes .entry)))) ∷ receptions 0 (drop p (bits-of (now (bytes .entry)))))) ⌝ }
+    ensures { λ r. ⌜ Cases r (receptions-from 0 (drop from (bits-of (now (bytes .entry)))) ≡ []) (λ p. (p ≤ 8 * length (now (bytes .entry))) × (receptions-from 0 (drop from (bits-of (now (bytes .entry)))) ≡ reception-from 0 0 (drop p (bits-of (now (bytes .entry)))) ∷ receptions-from 0 (drop p (bits-of (now (bytes .entry)))))) ⌝ }
 {
     let end = 8 * bytes.len();
     let mut place = from;

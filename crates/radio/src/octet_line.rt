@@ -3,10 +3,9 @@ ghost use mathlib.Core.List.{[], _∷_};
 ghost use mathlib.Core.Path.{_≡_};
 ghost use Prim.Native.Nat.{_+_, _≤_};
 ghost use lib.ListN.{length, take, drop};
-ghost use Rattle.radio.specs.HeardOctets.{sign-here, receptions, reception-from, octets-heard, present-at};
+ghost use Rattle.radio.specs.HeardOctets.{Octets-stand, sign-here, receptions, reception-from, octets-heard, present-at};
 ghost use Rattle.radio.specs.Lines.{at-bottom, bottom-sound, to-come};
 ghost use Rattle.radio.specs.Reception.{unopened};
-ghost use Rattle.radio.specs.Standing.{Stands};
 ghost use Rattle.std.specs.Options.{Cases};
 use crate::here::Here;
 use crate::here::heard_part;
@@ -57,7 +56,7 @@ impl<'a> OctetLine<'a> {
     /// What stands at the place of an opened line.
     fn here(&self) -> Here
         requires { ⌜ now self .begun ≡ true ⌝ }
-        ensures { λ r. ⌜ Stands r (now (self .entry) .given) (now (self .entry) .place + 1) (length (now (now (self .entry) .bytes))) (octets-heard (now (self .entry) .begun) (now (self .entry) .quiet) (now (self .entry) .given) (now (self .entry) .place) (now (now (self .entry) .bytes))) (octets-heard (now (self .entry) .begun) (now (self .entry) .quiet) (now (self .entry) .given + 1) (now (self .entry) .place + 1) (now (now (self .entry) .bytes))) ⌝ }
+        ensures { λ r. ⌜ Octets-stand r (now (self .entry) .begun) (now (self .entry) .quiet) (now (self .entry) .given) (now (self .entry) .place) (now (now (self .entry) .bytes)) ⌝ }
     {
         if self.place >= self.bytes.len() {
             return Here::Nothing;

@@ -31,12 +31,12 @@ pub returns-else-bits-eq1 : need.returns-else-bits-eq1
 returns-else-bits-eq1 c =
     let x = c .args .bits in
     elim (c .else-bits-eq1 .came) [
-      else-bits-eq1·by·then-bits-eq1·else-bits-eq0 w ↦
-        let m = and-mask (x / 512) 1 in
-        let z : (x / 512) % 2 ≡ 1 = omega arith in
-        spoiled-by (c .args .count) x (odd x) true (c .pre) refl (eq-eqb ((x / 512) % 2) 1 z) (never (odd x))
-    | else-bits-eq1·by·else-bits-eq1 w ↦
-        spoiled-by (c .args .count) x false (odd (x / 512)) (c .pre) (ne-eqb (x % 2) 1 (λ e. w .if-bits-eq1 .left (and-mask x 1 ∙ e))) refl refl
+      | else-bits-eq1·by·then-bits-eq1·else-bits-eq0 w ↦
+          let m = and-mask (x / 512) 1 in
+          let z : (x / 512) % 2 ≡ 1 = omega arith in
+          spoiled-by (c .args .count) x (odd x) true (c .pre) refl (eq-eqb ((x / 512) % 2) 1 z) (never (odd x))
+      | else-bits-eq1·by·else-bits-eq1 w ↦
+          spoiled-by (c .args .count) x false (odd (x / 512)) (c .pre) (ne-eqb (x % 2) 1 (λ e. w .if-bits-eq1 .left (and-mask x 1 ∙ e))) refl refl
     ]
   where
     never : (a : Bool) → (a && false) ≡ false

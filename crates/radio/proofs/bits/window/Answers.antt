@@ -10,8 +10,8 @@ use Rattle.radio.proofs.bits.window.Needs as need
 
 -- shifts of octets to their places in a word lose nothing
 shifted : (a b c d e : ℕ) → b < 256 → c < 256 → d < 256 → e < 256 →
-  a + (b * 256) % 18446744073709551616 + (c * 65536) % 18446744073709551616 + (d * 16777216) % 18446744073709551616 + (e * 4294967296) % 18446744073709551616
-  ≡ a + b * 256 + c * 65536 + d * 16777216 + e * 4294967296
+    a + (b * 256) % 18446744073709551616 + (c * 65536) % 18446744073709551616 + (d * 16777216) % 18446744073709551616 + (e * 4294967296) % 18446744073709551616
+    ≡ a + b * 256 + c * 65536 + d * 16777216 + e * 4294967296
 shifted a b c d e hb hc hd he = omega arith
 
 pub returns : need.returns
