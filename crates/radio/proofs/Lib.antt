@@ -1,0 +1,5 @@
+pub mod Honesty
+pub mod AtBottom
+pub mod OctetSteps
+pub mod LowBits
+pub mod BitSteps
