@@ -37,7 +37,7 @@ module _ (f : List ℕ) (a b : ℕ) where
   in-front = let l = long in take-at f (a ∷ b ∷ []) (length (f ++ a ∷ b ∷ []) - 2) (omega arith)
 
 -- the sum of at most 72 octets stays below 65,536
-small-sum : (xs : List ℕ) → Octets xs → length xs ≤ 72 → sum xs ≤ 18360
+pub small-sum : (xs : List ℕ) → Octets xs → length xs ≤ 72 → sum xs ≤ 18360
 small-sum xs o l =
     let m = sumBy-le (λ x. x) 255 xs (all-weaker (λ x. x < 256) (λ x. x ≤ 255) (λ x h. omega arith) xs o) in
     omega arith

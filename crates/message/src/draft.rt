@@ -48,6 +48,7 @@ impl Draft {
     fn octets(self) -> Buffer<74>
         ensures made { λ r. ⌜ items r ≡ message (self .header .kind) (self .header .destination) (self .header .source) (items (self .payload)) ⌝ }
         ensures lawful { λ r. ⌜ lawful (items r) ≡ true ⌝ }
+        ensures format { λ r. ⌜ Format ⌝ }
     {
         let payload = self.payload.as_slice();
         let head = self.header.head(payload.len());

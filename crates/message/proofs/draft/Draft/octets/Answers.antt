@@ -10,7 +10,7 @@ use Rattle.std.specs.shelf.Lists.{sum}
 use Rattle.std.proofs.shelf.Elements.{all-take, all-from-getD}
 use Rattle.message.specs.Message.{Admissible, message, lawful, head}
 use Rattle.message.specs.Parts.{items}
-use Rattle.message.proofs.Format.{is-lawful, lawful-tested}
+use Rattle.message.proofs.Format.{is-lawful, lawful-tested, format}
 use Rattle.message.proofs.Sealing.{items-length, sealed-is}
 use Rattle.message.proofs.draft.Draft.octets.Needs as need
 
@@ -54,4 +54,5 @@ returns c =
     record {
       made = made c;
       lawful = subst (λ (xs : List ℕ). lawful xs ≡ true) (sym (made c)) (lawful-tested m .1 (is-lawful (h .kind) (h .destination) (h .source) p (fields c)));
+      format = format;
     }
