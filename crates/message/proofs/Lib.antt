@@ -1,0 +1,3 @@
+pub mod Contents
+pub mod Walk
+pub mod Printable

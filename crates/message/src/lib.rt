@@ -1,0 +1,2 @@
+//! The payload bodies.
+pub mod bodies;
