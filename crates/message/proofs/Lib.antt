@@ -1,3 +1,4 @@
 pub mod Contents
-pub mod Walk
 pub mod Printable
+pub mod Handing
+pub mod Apart
