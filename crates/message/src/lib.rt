@@ -1,2 +1,3 @@
 //! The payload bodies.
 pub mod bodies;
+pub mod body;
