@@ -1,6 +1,6 @@
 pub mod Contents
 pub mod Printable
 pub mod Handing
-pub mod Apart
+pub mod Layouts
 pub mod OneBody
 pub mod Whole

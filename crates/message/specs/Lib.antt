@@ -1,2 +1,3 @@
+pub mod Apart
 pub mod Bodies
 pub mod Handed
