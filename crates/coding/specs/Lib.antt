@@ -1,0 +1,3 @@
+pub mod Regroup
+pub mod Grouping
+pub mod Lift
