@@ -50,16 +50,16 @@ abbrev pub counted : Grouping → ℕ → ℕ
 counted c n = c .coded * groups-in c n
 
 -- the ending above, where n symbols were given and h is left of the last group: a fault comes up, a whole end inside a group is torn
-abbrev pub ended : ℕ → List Symbol → Ending → Ending
-ended n h (fault f) = fault (raised f)
-ended n [] whole = whole
-ended n (s ∷ ss) whole = made-at Torn n
+abbrev pub ending-above : ℕ → List Symbol → Ending → Ending
+ending-above n h (fault f) = fault (raised f)
+ending-above n [] whole = whole
+ending-above n (s ∷ ss) whole = made-at Torn n
 
 -- what a reading half makes of r, where it has given n symbols before
 abbrev pub resumed : Grouping → ℕ → Reception → Reception
 resumed c n r = record {
   symbols = regroup (c .coded) (c .read) [] (r .symbols);
-  ending = ended (n + length (regroup (c .coded) (c .read) [] (r .symbols))) (left-over (c .coded) [] (r .symbols)) (r .ending);
+  ending = ending-above (n + length (regroup (c .coded) (c .read) [] (r .symbols))) (left-over (c .coded) [] (r .symbols)) (r .ending);
 }
 
 -- the reception above of a reception below
@@ -71,7 +71,7 @@ decoded c r = resumed c 0 r
 pub record Decoding (c : Grouping) (r above : Reception) : Type 0 where
   pub rest : List Symbol
   pub groups : Cut (c .coded) (c .read) (r .symbols) (above .symbols) rest
-  pub ending : above .ending ≡ ended (length (above .symbols)) rest (r .ending)
+  pub ending : above .ending ≡ ending-above (length (above .symbols)) rest (r .ending)
 
 -- what encoding a message of whole groups is: its groups in turn, each in its code
 pub record Encoding (c : Grouping) (xs below : List ℕ) : Type 0 where

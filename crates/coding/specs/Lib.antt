@@ -1,3 +1,5 @@
 pub mod Regroup
 pub mod Grouping
 pub mod Lift
+pub mod Half
+pub mod Gather

@@ -12,7 +12,7 @@ use Rattle.radio.specs.declared.symbol.Symbol.the-variants.{Clean, Spoiled}
 use Rattle.radio.specs.Reception.{Reception, Ending, whole, fault, mark, marks, any-octet, As-written, All-as-written, Honest, clean}
 use Rattle.radio.specs.Layer.{Layer, Laws, Fit, Multiple, Octets, All}
 use Rattle.coding.specs.Regroup.{regroup, left-over, flat, Each, regroup-full, left-over-full}
-use Rattle.coding.specs.Grouping.{Grouping, decoded, ended, encoded, ruled, groups-in, counted}
+use Rattle.coding.specs.Grouping.{Grouping, decoded, ending-above, encoded, ruled, groups-in, counted}
 
 record Groups (n m : ℕ) (xs : List ℕ) : Type 0 where
   gs : List (List ℕ)
@@ -186,11 +186,11 @@ module _ (c : Grouping) where
     returns = λ u xs l f. let q = fit-groups u xs f in
         subst (λ (z : List ℕ). decoded c (clean (encoded c z)) ≡ clean z) (sym (q .is))
         (let a = returns-all (q .gs) (q .each) (subst Octets (q .is) (f .octets)) in
-         ap (λ z. record { symbols = z; ending = ended (0 + length z) (left-over (c .coded) [] (map Clean (encoded c (flat (q .gs))))) whole }) (a .0)
-         ∙ ap (λ z. record { symbols = map Clean (flat (q .gs)); ending = ended (0 + length (map Clean (flat (q .gs)))) z whole }) (a .1));
+         ap (λ z. record { symbols = z; ending = ending-above (0 + length z) (left-over (c .coded) [] (map Clean (encoded c (flat (q .gs))))) whole }) (a .0)
+         ∙ ap (λ z. record { symbols = map Clean (flat (q .gs)); ending = ending-above (0 + length (map Clean (flat (q .gs)))) z whole }) (a .1));
     honest = λ u xs r l f h. let q = fair-fit u xs (r .symbols) f (h .agrees) in
-        record { ended = ap (λ z. ended (0 + length (regroup (c .coded) (c .read) [] (r .symbols))) z (r .ending)) (q .none-left)
-            ∙ ap (λ z. ended (0 + length (regroup (c .coded) (c .read) [] (r .symbols))) [] z) (h .ended); agrees = q .agrees };
+        record { ended = ap (λ z. ending-above (0 + length (regroup (c .coded) (c .read) [] (r .symbols))) z (r .ending)) (q .none-left)
+            ∙ ap (λ z. ending-above (0 + length (regroup (c .coded) (c .read) [] (r .symbols))) [] z) (h .ended); agrees = q .agrees };
     marked = λ u xs r l f h. fair-fit u xs (r .symbols) f (h .agrees) .marked;
   }
 

@@ -4,6 +4,8 @@ ghost use lib.ListN.{take};
 ghost use Rattle.coding.specs.Grouping.{Grouping};
 use radio::symbol::Symbol;
 
+mod gather;
+
 /// A coding of octets, group by group.
 pub trait Coding {
     ghost grouping: { Grouping };
