@@ -3,6 +3,7 @@ use mathlib.Core.Path.{_≡_, ap, _∙_}
 use mathlib.Core.List.{List, [], _∷_, _++_, map, map-map}
 use mathlib.Core.Bool.{Bool, true, false}
 use Prim.Native.Nat.{ℕ}
+use lib.ListN.{take, drop}
 use Rattle.refusal.specs.declared.Cause.the-variants.{Torn}
 use Rattle.radio.specs.declared.symbol.Symbol.{Symbol}
 use Rattle.radio.specs.Reception.{Reception, made-at}
@@ -16,6 +17,10 @@ use Rattle.coding.specs.Lift.{layer-of}
 abbrev pub held : Grouping → List Symbol → Bool → ℕ → Reception → Reception
 held c front true n r = record { symbols = front; ending = made-at Torn n }
 held c front false n r = record { symbols = front ++ resumed c n r .symbols; ending = resumed c n r .ending }
+
+-- of a group of symbols, those from one place up to another are yet to be taken
+abbrev pub waiting : ℕ → ℕ → List Symbol → List Symbol
+waiting at end ready = drop at (take end ready)
 
 -- the line over a line that means h: each reception to come is decoded, and the layer stands on the pile below
 abbrev pub over : Grouping → Reception → Heard → Heard
