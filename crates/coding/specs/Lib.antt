@@ -3,3 +3,5 @@ pub mod Grouping
 pub mod Lift
 pub mod Half
 pub mod Gather
+pub mod Manchester
+pub mod Block

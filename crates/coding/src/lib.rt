@@ -5,6 +5,7 @@ ghost use Rattle.coding.specs.Grouping.{Grouping};
 use radio::symbol::Symbol;
 
 mod gather;
+pub mod manchester;
 pub mod reading;
 
 /// A coding of octets, group by group.

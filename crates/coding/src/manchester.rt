@@ -1,0 +1,62 @@
+ghost use mathlib.Core.Path.{_≡_};
+ghost use Prim.Native.Nat.{_<_};
+ghost use Rattle.std.specs.Options.{Cases as BySome};
+ghost use Rattle.coding.specs.Manchester.{manchester, nibble-of, pair-of};
+use crate::Coding;
+use radio::symbol::Symbol;
+
+/// The code octets of the four-bit values 0 to 15.
+const CODES: [u8; 16] = [
+    0x55, 0x56, 0x59, 0x5A, 0x65, 0x66, 0x69, 0x6A, 0x95, 0x96, 0x99, 0x9A, 0xA5, 0xA6, 0xA9, 0xAA,
+];
+
+/// The four bits that a symbol stands for, if it is a clean code octet.
+fn nibble(s: Symbol) -> Option<u8>
+    ensures is { λ r. ⌜ r ≡ nibble-of s ⌝ }
+    ensures small { λ r. ⌜ BySome r (Unit {0}) (λ v. v < 16) ⌝ }
+{
+    let Symbol::Clean(c) = s else {
+        return None;
+    };
+    for i in 0..16 {
+        if CODES[i] == c {
+            return Some(i as u8);
+        }
+    }
+    None
+}
+
+/// The octet that two symbols stand for.
+fn pair(s: Symbol, t: Symbol) -> Symbol
+    ensures { λ r. ⌜ r ≡ pair-of s t ⌝ }
+{
+    match (nibble(s), nibble(t)) {
+        (Some(a), Some(b)) => Symbol::Clean(16 * a + b),
+        _ => Symbol::Spoiled,
+    }
+}
+
+/// An octet as two code octets, for its upper and its lower four bits.
+#[derive(Clone, Copy)]
+pub struct Manchester {}
+
+pub impl Coding for Manchester as ManchesterCoding {
+    ghost grouping = { manchester };
+
+    fn plain(&self) -> usize {
+        1
+    }
+
+    fn coded(&self) -> usize {
+        2
+    }
+
+    fn encode(&self, group: &[u8; 8]) -> [u8; 8] {
+        let octet = group[0] as usize;
+        [CODES[octet / 16], CODES[octet % 16], 0, 0, 0, 0, 0, 0]
+    }
+
+    fn decode(&self, group: &[Symbol; 8]) -> [Symbol; 8] {
+        [pair(group[0], group[1]); 8]
+    }
+}
