@@ -1,17 +1,10 @@
 -- The block coding: three octets are followed by their sum, from which one that came spoiled is worked out again. Assumes nothing.
-use mathlib.Core.Path.{_≡_, refl, sym, ap, subst, _∙_}
-use mathlib.Core.List.{List, [], _∷_, map}
+use mathlib.Core.List.{List, [], _∷_}
 use mathlib.Core.Bool.{Bool, true, false, cond}
-use Prim.Native.Nat.{ℕ, _+_, _-_, _%_, _<_}
-use native.Mathlib.Omega.{arith}
-use lib.Dec.{eqb, lit≤}
-use lib.ListN.{length}
-use borrow.Author.Tests.{eq-eqb}
+use Prim.Native.Nat.{ℕ, _+_, _-_, _%_}
+use lib.Dec.{eqb}
 use Rattle.radio.specs.declared.symbol.Symbol.{Symbol}
 use Rattle.radio.specs.declared.symbol.Symbol.the-variants.{Clean, Spoiled}
-use Rattle.radio.specs.Reception.{mark, any-octet, As-written, All-as-written}
-use Rattle.radio.specs.Layer.{Octets, All}
-use Rattle.coding.specs.Grouping.{Grouping}
 
 -- the sum of three octets, modulo 256
 abbrev pub sum-of : ℕ → ℕ → ℕ → ℕ

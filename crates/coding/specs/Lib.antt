@@ -4,4 +4,6 @@ pub mod Lift
 pub mod Half
 pub mod Gather
 pub mod Manchester
+pub mod ManchesterLaws
 pub mod Block
+pub mod BlockLaws

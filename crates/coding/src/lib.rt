@@ -4,6 +4,7 @@ ghost use lib.ListN.{take};
 ghost use Rattle.coding.specs.Grouping.{Grouping};
 use radio::symbol::Symbol;
 
+pub mod block;
 mod gather;
 pub mod manchester;
 pub mod reading;

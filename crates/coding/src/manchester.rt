@@ -1,7 +1,8 @@
 ghost use mathlib.Core.Path.{_≡_};
 ghost use Prim.Native.Nat.{_<_};
 ghost use Rattle.std.specs.Options.{Cases as BySome};
-ghost use Rattle.coding.specs.Manchester.{manchester, nibble-of, pair-of};
+ghost use Rattle.coding.specs.Manchester.{nibble-of, pair-of};
+ghost use Rattle.coding.specs.ManchesterLaws.{manchester};
 use crate::Coding;
 use radio::symbol::Symbol;
 
