@@ -8,6 +8,7 @@ pub mod block;
 mod gather;
 pub mod manchester;
 pub mod reading;
+pub mod standard;
 
 /// A coding of octets, group by group.
 pub trait Coding {

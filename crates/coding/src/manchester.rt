@@ -1,7 +1,8 @@
 ghost use mathlib.Core.Path.{_≡_};
 ghost use Prim.Native.Nat.{_<_};
+ghost use lib.ListN.{getD};
 ghost use Rattle.std.specs.Options.{Cases as BySome};
-ghost use Rattle.coding.specs.Manchester.{nibble-of, pair-of};
+ghost use Rattle.coding.specs.Manchester.{codes, nibble-of, pair-of};
 ghost use Rattle.coding.specs.ManchesterLaws.{manchester};
 use crate::Coding;
 use radio::symbol::Symbol;
@@ -10,6 +11,14 @@ use radio::symbol::Symbol;
 const CODES: [u8; 16] = [
     0x55, 0x56, 0x59, 0x5A, 0x65, 0x66, 0x69, 0x6A, 0x95, 0x96, 0x99, 0x9A, 0xA5, 0xA6, 0xA9, 0xAA,
 ];
+
+/// The code octet of a four-bit value.
+fn code(value: u8) -> u8
+    requires { ⌜ value < 16 ⌝ }
+    ensures { λ r. ⌜ r ≡ getD codes value 0 ⌝ }
+{
+    CODES[value as usize]
+}
 
 /// The four bits that a symbol stands for, if it is a clean code octet.
 fn nibble(s: Symbol) -> Option<u8>
@@ -53,8 +62,8 @@ pub impl Coding for Manchester as ManchesterCoding {
     }
 
     fn encode(&self, group: &[u8; 8]) -> [u8; 8] {
-        let octet = group[0] as usize;
-        [CODES[octet / 16], CODES[octet % 16], 0, 0, 0, 0, 0, 0]
+        let [octet, ..] = *group;
+        [code(octet / 16), code(octet % 16), 0, 0, 0, 0, 0, 0]
     }
 
     fn decode(&self, group: &[Symbol; 8]) -> [Symbol; 8] {

@@ -1,14 +1,11 @@
-ghost use mathlib.Core.Path.{_≡_};
 ghost use Prim.Native.Nat.{_≤_};
-ghost use Rattle.coding.specs.Half.{half, held, waiting, fresh, over-sound};
 use crate::Coding;
-use crate::gather::FaultFromRaised;
-use crate::gather::gather;
 use radio::line::Line;
 use radio::symbol::Symbol;
-use refusal::Cause;
-use refusal::Fault;
-use refusal::Refusal;
+
+mod half;
+
+pub use half::ReadingLine;
 
 /// The reading half of a layer over a line, itself a line. It keeps the symbols of the last group that are
 /// not yet taken, how many symbols it has decoded in this reception, and whether a group was torn.
@@ -23,74 +20,4 @@ pub struct Reading<C: Coding, L: Line> {
     torn: bool,
     ghost started: { at ≤ end },
     ghost within: { end ≤ 8 },
-}
-
-impl<C: Coding, L: Line> Reading<C, L> {
-    /// The reading half of the layer of `coding` over `below`.
-    pub fn new(coding: C, below: L) -> Self
-        ensures { λ r. ⌜ half (C·Coding .grouping) (waiting (r .at) (r .end) (r .ready)) (r .torn) (r .given) (L·Line .heard (r .below)) ≡ fresh (C·Coding .grouping) (L·Line .heard below) ⌝ }
-    {
-        Reading {
-            below,
-            coding,
-            ready: [Symbol::Spoiled; 8],
-            at: 0,
-            end: 0,
-            given: 0,
-            torn: false,
-        }
-    }
-}
-
-pub impl<C: Coding, L: Line> Line for Reading<C, L> as ReadingLine {
-    ghost heard = { λ s. half (C·Coding .grouping) (waiting (s .at) (s .end) (s .ready)) (s .torn) (s .given) (L·Line .heard (s .below)) };
-
-    ghost sound = { λ s. over-sound (C·Coding .grouping) (held (C·Coding .grouping) (waiting (s .at) (s .end) (s .ready)) (s .torn) (s .given) (L·Line .heard (s .below) .present)) (L·Line .heard (s .below)) (L·Line .sound (s .below)) };
-
-    fn open(&mut self) -> Result<(), Refusal> {
-        self.below.open()?;
-        self.at = 0;
-        self.end = 0;
-        self.given = 0;
-        self.torn = false;
-        Ok(())
-    }
-
-    fn take(&mut self) -> Result<Option<Symbol>, Fault> {
-        if self.at < self.end {
-            let s = self.ready[self.at];
-            self.at += 1;
-            return Ok(Some(s));
-        }
-        let torn = Fault {
-            cause: Cause::Torn,
-            place: self.given,
-            rise: 0,
-        };
-        if self.torn {
-            return Err(torn);
-        }
-        let want = self.coding.coded();
-        let mut group = [Symbol::Spoiled; 8];
-        let n = gather(&mut self.below, &mut group, want)?;
-        if n == 0 {
-            return Ok(None);
-        }
-        if n < want {
-            self.torn = true;
-            return Err(torn);
-        }
-        let ready = self.coding.decode(&group);
-        let plain = self.coding.plain();
-        self.ready = ready;
-        self.given = self.given.saturating_add(plain as u16);
-        self.at = 1;
-        self.end = plain;
-        Ok(Some(ready[0]))
-    }
-
-    fn unit_of(&self) -> u16 {
-        let unit = self.below.unit_of() as usize * self.coding.plain();
-        if unit < 65535 { unit as u16 } else { 65535 }
-    }
 }

@@ -3,7 +3,7 @@ use Prim.Native.Nat.{_*_, min}
 use native.Mathlib.Omega.{arith}
 use Rattle.radio.specs.Lines.{unit}
 use Rattle.coding.proofs.Halves.{unit-over}
-use Rattle.coding.proofs.reading.ReadingLine.unit_of.Needs as need
+use Rattle.coding.proofs.reading.half.ReadingLine.unit_of.Needs as need
 
 pub returns-then-unit-lt65535 : need.returns-then-unit-lt65535
 returns-then-unit-lt65535 g c =

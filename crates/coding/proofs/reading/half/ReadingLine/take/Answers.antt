@@ -13,7 +13,7 @@ use Rattle.radio.specs.declared.symbol.Symbol.{Symbol}
 use Rattle.radio.specs.declared.symbol.Symbol.the-variants.{Clean}
 use Rattle.coding.specs.Gather.{past}
 use Rattle.coding.proofs.Halves.{ready-taken, torn-again, none-waiting, fault-below, end-below, tear-below, full-below}
-use Rattle.coding.proofs.reading.ReadingLine.take.Needs as need
+use Rattle.coding.proofs.reading.half.ReadingLine.take.Needs as need
 
 pub returns-then-self : need.returns-then-self
 returns-then-self g c =
