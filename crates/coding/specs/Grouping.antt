@@ -9,7 +9,7 @@ use Rattle.radio.specs.declared.symbol.Symbol.{Symbol}
 use Rattle.radio.specs.declared.symbol.Symbol.the-variants.{Clean}
 use Rattle.radio.specs.Reception.{Reception, Ending, whole, fault, made-at, raised, mark, any-octet, All-as-written}
 use Rattle.radio.specs.Layer.{Octets, All}
-use Rattle.coding.specs.Regroup.{regroup, left-over, Cut}
+use Rattle.coding.specs.Regroup.{regroup, left-over}
 
 -- what an author says of a coding, and shows of one group; an octet group has `plain` octets, its code `coded`
 pub record Grouping : Type 0 where
@@ -65,15 +65,3 @@ resumed c n r = record {
 -- the reception above of a reception below
 abbrev pub decoded : Grouping → Reception → Reception
 decoded c r = resumed c 0 r
-
--- what decoding is: the groups below in turn, each as the coding reads it, a rest of the last group giving no symbol;
--- the ending follows from that rest and the ending below
-pub record Decoding (c : Grouping) (r above : Reception) : Type 0 where
-  pub rest : List Symbol
-  pub groups : Cut (c .coded) (c .read) (r .symbols) (above .symbols) rest
-  pub ending : above .ending ≡ ending-above (length (above .symbols)) rest (r .ending)
-
--- what encoding a message of whole groups is: its groups in turn, each in its code
-pub record Encoding (c : Grouping) (xs below : List ℕ) : Type 0 where
-  pub groups : Cut (c .plain) (c .code) xs below []
-  pub count : length below ≡ counted c (length xs)

@@ -9,3 +9,4 @@ pub mod ManchesterLaws
 pub mod Block
 pub mod BlockLaws
 pub mod Standard
+pub mod Statements

@@ -15,7 +15,8 @@ fn sum(a: u8, b: u8, c: u8) -> u8
 
 /// A sum less two of its octets, modulo 256.
 fn rest(d: u8, a: u8, b: u8) -> u8
-    ensures { λ r. ⌜ r ≡ less d a b ⌝ }
+    ensures is { λ r. ⌜ r ≡ less d a b ⌝ }
+    ensures adds { λ r. ⌜ sum-of r a b ≡ d ⌝ }
 {
     d.wrapping_sub(a).wrapping_sub(b)
 }

@@ -6,6 +6,7 @@ use radio::symbol::Symbol;
 
 pub mod block;
 mod gather;
+pub mod laws;
 pub mod manchester;
 pub mod reading;
 pub mod standard;
