@@ -49,7 +49,7 @@ module _ (c : Grouping) where
   takes-ready at end xs d t n r l w =
       let k : length (take end xs) ≡ end = length-take-le end xs w in
       let o : drop at (take end xs) ≡ getD xs at d ∷ drop (at + 1) (take end xs) =
-          drop-more (take end xs) at d (omega arith) ∙ ap (λ y. y ∷ drop (at + 1) (take end xs)) (getD-take end xs at d l) in
+      drop-more (take end xs) at d (omega arith) ∙ ap (λ y. y ∷ drop (at + 1) (take end xs)) (getD-take end xs at d l) in
       same-takes (ap (λ z. held c z t n r) o) refl (takes-front (getD xs at d) (drop (at + 1) (take end xs)) t n r)
 
   takes-torn : (n : ℕ) (r : Reception) → n < 65536 → Takes (held c [] true n r) (torn-at n) (held c [] true n r)

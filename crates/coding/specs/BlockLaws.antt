@@ -132,7 +132,7 @@ block = record {
   read-length = read-long;
   rule-length = rule-long;
   written = three-of (λ g. Octets g → Octets (code-of g) × All any-octet (code-of g)) (λ x y z o.
-    ((o .0, (o .1 .0, (o .1 .1 .0, (sum-octet x y z, tt)))), (refl, (refl, (refl, (refl, tt))))));
+      ((o .0, (o .1 .0, (o .1 .1 .0, (sum-octet x y z, tt)))), (refl, (refl, (refl, (refl, tt))))));
   returns = three-of (λ g. Octets g → read-of (map Clean (code-of g)) ≡ map Clean g) (λ x y z o. clean-returns x y z);
   honest = λ g ss. three-of (λ h. Octets h → All-as-written any-octet ss (code-of h) → All-as-written any-octet (read-of ss) h) (λ x y z. honest-group x y z ss) g;
   marked = λ g ss. three-of (λ h. Octets h → All-as-written any-octet ss (code-of h) → map (mark any-octet) (read-of ss) ≡ rule-for (map (mark any-octet) ss)) (λ x y z. marked-group x y z ss) g;

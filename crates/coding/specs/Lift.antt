@@ -126,9 +126,10 @@ module _ (c : Grouping) where
       let x = map Clean (c .code g) in
       let y = map Clean (encoded c (flat gs)) in
       let p : map Clean (encoded c (g ++ flat gs)) ≡ x ++ y = ap (map Clean) (encoded-more g (flat gs) (e .0)) ∙ map-append Clean (c .code g) (encoded c (flat gs)) in
-      let l : length x ≡ c .coded = length-map (c .code g) Clean ∙ c .code-length g (e .0) in
-      (ap (regroup (c .coded) (c .read) []) p ∙ decoded-more x y l ∙ ap (λ z. z ++ regroup (c .coded) (c .read) [] y) b ∙ ap (λ z. map Clean g ++ z) (a .0) ∙ sym (map-append Clean g (flat gs)),
-       ap (left-over (c .coded) []) p ∙ left-more x y l ∙ a .1)
+      let l : length x ≡ c .coded = length-map (c .code g) Clean ∙ c .code-length g (e .0) in (
+        ap (regroup (c .coded) (c .read) []) p ∙ decoded-more x y l ∙ ap (λ z. z ++ regroup (c .coded) (c .read) [] y) b ∙ ap (λ z. map Clean g ++ z) (a .0) ∙ sym (map-append Clean g (flat gs)),
+        ap (left-over (c .coded) []) p ∙ left-more x y l ∙ a .1,
+      )
 
   record Fair (ss : List Symbol) (xs : List ℕ) : Type 0 where
     agrees : All-as-written any-octet (regroup (c .coded) (c .read) [] ss) xs
@@ -185,20 +186,24 @@ module _ (c : Grouping) where
   pub layer-laws : Laws (λ u. c .plain * u) (counted c) (encoded c) (decoded c) (c .may) (ruled c)
   layer-laws = record {
     positive = λ u l. mul-le-mul (c .some) l;
-    fixed = λ u xs l f. let q = fit-groups u xs f in
-        (ap (λ z. length (encoded c z)) (q .is) ∙ lengths (q .gs) (q .each) ∙ ap (λ z. c .coded * z) (q .count ∙ sym (fit-count u xs f)),
-         (c .coded * f .even .0, ap (λ z. c .coded * z) (fit-count u xs f) ∙ mul-left-comm (c .coded) u (f .even .0)));
+    fixed = λ u xs l f. let q = fit-groups u xs f in (
+      ap (λ z. length (encoded c z)) (q .is) ∙ lengths (q .gs) (q .each) ∙ ap (λ z. c .coded * z) (q .count ∙ sym (fit-count u xs f)),
+      (c .coded * f .even .0, ap (λ z. c .coded * z) (fit-count u xs f) ∙ mul-left-comm (c .coded) u (f .even .0)),
+    );
     no-less = enough;
     written = λ u xs l f. let q = fit-groups u xs f in
         subst (λ (z : List ℕ). Octets (encoded c z) × All (c .may) (encoded c z)) (sym (q .is)) (written-all (q .gs) (q .each) (subst Octets (q .is) (f .octets)));
     returns = λ u xs l f. let q = fit-groups u xs f in
         subst (λ (z : List ℕ). decoded c (clean (encoded c z)) ≡ clean z) (sym (q .is))
         (let a = returns-all (q .gs) (q .each) (subst Octets (q .is) (f .octets)) in
-         ap (λ z. record { symbols = z; ending = ending-above (0 + length z) (left-over (c .coded) [] (map Clean (encoded c (flat (q .gs))))) whole }) (a .0)
-         ∙ ap (λ z. record { symbols = map Clean (flat (q .gs)); ending = ending-above (0 + length (map Clean (flat (q .gs)))) z whole }) (a .1));
+        ap (λ z. record { symbols = z; ending = ending-above (0 + length z) (left-over (c .coded) [] (map Clean (encoded c (flat (q .gs))))) whole }) (a .0)
+        ∙ ap (λ z. record { symbols = map Clean (flat (q .gs)); ending = ending-above (0 + length (map Clean (flat (q .gs)))) z whole }) (a .1));
     honest = λ u xs r l f h. let q = fair-fit u xs (r .symbols) f (h .agrees) in
-        record { ended = ap (λ z. ending-above (0 + length (regroup (c .coded) (c .read) [] (r .symbols))) z (r .ending)) (q .none-left)
-            ∙ ap (λ z. ending-above (0 + length (regroup (c .coded) (c .read) [] (r .symbols))) [] z) (h .ended); agrees = q .agrees };
+        record {
+          ended = ap (λ z. ending-above (0 + length (regroup (c .coded) (c .read) [] (r .symbols))) z (r .ending)) (q .none-left)
+              ∙ ap (λ z. ending-above (0 + length (regroup (c .coded) (c .read) [] (r .symbols))) [] z) (h .ended);
+          agrees = q .agrees;
+        };
     marked = λ u xs r l f h. fair-fit u xs (r .symbols) f (h .agrees) .marked;
   }
 

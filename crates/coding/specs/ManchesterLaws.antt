@@ -158,9 +158,10 @@ manchester = record {
   code-length = one-of (λ g. length (code-of g) ≡ 2) (λ x. refl);
   read-length = read-long;
   rule-length = rule-long;
-  written = one-of (λ g. Octets g → Octets (code-of g) × All may-be (code-of g)) (λ x o.
-    ((code-octet (x / 16) (upper x (o .0)), (code-octet (x % 16) (lower x), tt)),
-     (ap isSome (code-value (x / 16) (upper x (o .0))), (ap isSome (code-value (x % 16) (lower x)), tt))));
+  written = one-of (λ g. Octets g → Octets (code-of g) × All may-be (code-of g)) (λ x o. (
+    (code-octet (x / 16) (upper x (o .0)), (code-octet (x % 16) (lower x), tt)),
+    (ap isSome (code-value (x / 16) (upper x (o .0))), (ap isSome (code-value (x % 16) (lower x)), tt)),
+  ));
   returns = one-of (λ g. Octets g → read-of (map Clean (code-of g)) ≡ map Clean g) (λ x o. ap (λ s. s ∷ []) (both-some x (o .0)));
   honest = λ g ss. one-of (λ h. Octets h → All-as-written may-be ss (code-of h) → All-as-written any-octet (read-of ss) h) (λ x o. honest-group x ss (o .0)) g;
   marked = λ g ss. one-of (λ h. Octets h → All-as-written may-be ss (code-of h) → map (mark any-octet) (read-of ss) ≡ rule-for (map (mark may-be) ss)) (λ x o. marked-group x ss) g;

@@ -41,7 +41,7 @@ returns-in-Break-n g c =
     let l : length (h .present .symbols) < k .coded = omega (arith, o .gives .0, e) in
     let x = err-from-errBy (c .from-residual .result) (c .from-residual .ensures .1) in
     let t = fault-below k _ (s .torn) (s .given) h (g .L·Line .heard (c .gather .last .below)) (none-waiting (s .at) (s .end) (s .ready) (c .if-self .left) w) (c .if-self-2 .left)
-        (o .left ∙ ap (λ n. past n h) e) (x .0) (o .gives .1 .0) l (o .gives .1 .1) (x .2 ∙ o .gives .1 .2) in
+    (o .left ∙ ap (λ n. past n h) e) (x .0) (o .gives .1 .0) l (o .gives .1 .1) (x .2 ∙ o .gives .1 .2) in
     record { answers = x .1 ∙ t .answers; left = t .left }
 
 pub returns-then-n-eq0 : need.returns-then-n-eq0
@@ -55,7 +55,7 @@ returns-then-n-eq0 g c =
     let less : c .in-Continue-n .n < c .coded-want .result = omega (arith, c .if-n-eq0 .taken, e, k .some, k .no-less) in
     let none : length (h .present .symbols) ≡ 0 = omega (arith, o .gives .0, c .if-n-eq0 .taken, e, k .some, k .no-less) in
     let t = end-below k _ (s .torn) (s .given) h (g .L·Line .heard (c .gather .last .below)) (none-waiting (s .at) (s .end) (s .ready) (c .if-self .left) w) (c .if-self-2 .left)
-        (o .left ∙ ap (λ n. past n h) e) (nil-from-length (h .present .symbols) none) (o .gives .2 less) in
+    (o .left ∙ ap (λ n. past n h) e) (nil-from-length (h .present .symbols) none) (o .gives .2 less) in
     record { answers = t .answers; left = t .left }
 
 pub returns-then-n-want : need.returns-then-n-want
@@ -70,7 +70,7 @@ returns-then-n-want g c =
     let some : 1 ≤ length (h .present .symbols) = omega (arith, o .gives .0, c .if-n-eq0 .left) in
     let l : length (h .present .symbols) < k .coded = omega (arith, o .gives .0, c .if-n-want .taken, e) in
     let t = tear-below k _ (s .torn) (s .given) h (g .L·Line .heard (c .gather .last .below)) (none-waiting (s .at) (s .end) (s .ready) (c .if-self .left) w) (c .if-self-2 .left)
-        (o .left ∙ ap (λ n. past n h) e) some l (o .gives .2 (c .if-n-want .taken)) given in
+    (o .left ∙ ap (λ n. past n h) e) some l (o .gives .2 (c .if-n-want .taken)) given in
     record { answers = t .answers; left = t .left }
 
 pub returns : need.returns
@@ -84,9 +84,9 @@ returns g c =
     let n : c .in-Continue-n .n ≡ c .coded-want .result = omega (arith, o .gives .0, c .if-n-want .left) in
     let l : k .coded ≤ length (h .present .symbols) = omega (arith, o .gives .0, e, n) in
     let same : take (k .coded) (c .gather .last .group) ≡ take (k .coded) (h .present .symbols) =
-        ap (λ m. take m (c .gather .last .group)) (sym (n ∙ e)) ∙ o .gives .1 ∙ ap (λ m. take m (h .present .symbols)) e in
+    ap (λ m. take m (c .gather .last .group)) (sym (n ∙ e)) ∙ o .gives .1 ∙ ap (λ m. take m (h .present .symbols)) e in
     let long : k .plain ≤ length (c .decode-ready .result) = search needs in
     let t = full-below k _ (s .torn) (s .given) h (g .L·Line .heard (c .gather .last .below)) (none-waiting (s .at) (s .end) (s .ready) (c .if-self .left) w) (c .if-self-2 .left)
-        (o .left ∙ ap (λ m. past m h) e) (c .saturating-add-self .result) (c .plain-plain .result) (c .gather .last .group) (c .decode-ready .result) (Clean 0)
-        l same (c .decode-ready .ensures) long (c .saturating-add-self .ensures) (c .plain-plain .ensures) in
+    (o .left ∙ ap (λ m. past m h) e) (c .saturating-add-self .result) (c .plain-plain .result) (c .gather .last .group) (c .decode-ready .result) (Clean 0)
+    l same (c .decode-ready .ensures) long (c .saturating-add-self .ensures) (c .plain-plain .ensures) in
     record { answers = t .answers; left = t .left }
