@@ -10,6 +10,7 @@ pub mod laws;
 pub mod manchester;
 pub mod reading;
 pub mod standard;
+mod unit;
 
 /// A coding of octets, group by group.
 pub trait Coding {
