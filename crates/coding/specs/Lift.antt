@@ -33,14 +33,6 @@ groups n (suc m) xs e =
       count = ap suc (r .count);
     }
 
--- whole groups leave nothing over
-pub none-left-over : (n m : ℕ) (xs : List ℕ) → 1 ≤ n → length xs ≡ n * m → left-over n [] xs ≡ []
-none-left-over n m xs l e = let q = groups n m xs e in ap (left-over n []) (q .is) ∙ over-groups (q .gs) (q .each)
-  where
-    over-groups : (gs : List (List ℕ)) → Each n gs → left-over n [] (flat gs) ≡ []
-    over-groups [] e = refl
-    over-groups (g ∷ gs) e = let k : 0 + length g ≡ n = omega (arith, e .0) in left-over-full n [] g (flat gs) k (omega (arith, e .0)) ∙ over-groups gs (e .1)
-
 octets-left : (xs ys : List ℕ) → Octets (xs ++ ys) → Octets xs
 octets-left [] ys o = tt
 octets-left (x ∷ xs) ys o = (o .0, octets-left xs ys (o .1))

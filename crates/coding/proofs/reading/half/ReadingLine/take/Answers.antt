@@ -44,7 +44,7 @@ returns-in-Break-n g c =
     let l : length (h .present .symbols) < k .coded = omega (arith, o .gives .0, e) in
     let x = err-from-errBy (c .from-residual .result) (c .from-residual .ensures .1) in
     let t = fault-below k _ (s .torn) (s .given) h (g .L·Line .heard (c .gather .last .below)) (none-waiting (s .at) (s .end) (s .ready) (c .if-self .left) w) (c .if-self-2 .left)
-        (o .left ∙ ap (λ n. past n h) e) (x .0) (o .gives .1 .0) l (o .gives .1 .1) (x .2 ∙ o .gives .1 .2) in
+    (o .left ∙ ap (λ n. past n h) e) (x .0) (o .gives .1 .0) l (o .gives .1 .1) (x .2 ∙ o .gives .1 .2) in
     record { answers = x .1 ∙ t .answers; left = t .left }
 
 pub returns-then-n-eq0 : need.returns-then-n-eq0
@@ -58,7 +58,7 @@ returns-then-n-eq0 g c =
     let less : c .in-Continue-n .n < c .coded-want .result = omega (arith, c .if-n-eq0 .taken, e, k .some, k .no-less) in
     let none : length (h .present .symbols) ≡ 0 = omega (arith, o .gives .0, c .if-n-eq0 .taken, e, k .some, k .no-less) in
     let t = end-below k _ (s .torn) (s .given) h (g .L·Line .heard (c .gather .last .below)) (none-waiting (s .at) (s .end) (s .ready) (c .if-self .left) w) (c .if-self-2 .left)
-        (o .left ∙ ap (λ n. past n h) e) (nil-from-length (h .present .symbols) none) (o .gives .2 less) in
+    (o .left ∙ ap (λ n. past n h) e) (nil-from-length (h .present .symbols) none) (o .gives .2 less) in
     record { answers = t .answers; left = t .left }
 
 pub returns-then-n-want : need.returns-then-n-want
@@ -74,7 +74,7 @@ returns-then-n-want g c =
     let l : length (h .present .symbols) < k .coded = omega (arith, o .gives .0, c .if-n-want .taken, e) in
     let below = c .gather .last .below in
     let t = tear-below k _ (s .torn) (s .given) h (g .L·Line .heard below) (none-waiting (s .at) (s .end) (s .ready) (c .if-self .left) w) (c .if-self-2 .left)
-        (o .left ∙ ap (λ n. past n h) e) some l (o .gives .2 (c .if-n-want .taken)) given in
+    (o .left ∙ ap (λ n. past n h) e) some l (o .gives .2 (c .if-n-want .taken)) given in
     let m = c .tear-then-n-want .ensures .keeps in
     record {
       answers = ap Err (c .tear-then-n-want .ensures .is) ∙ t .answers;
@@ -93,12 +93,12 @@ returns g c =
     let l : k .coded ≤ length (h .present .symbols) = omega (arith, o .gives .0, e, n) in
     let group = c .gather .last .group in
     let same : take (k .coded) group ≡ take (k .coded) (h .present .symbols) =
-        ap (λ z. take z group) (sym (n ∙ e)) ∙ o .gives .1 ∙ ap (λ z. take z (h .present .symbols)) e in
+    ap (λ z. take z group) (sym (n ∙ e)) ∙ o .gives .1 ∙ ap (λ z. take z (h .present .symbols)) e in
     let below = c .gather .last .below in
     let b = c .read .last .self in
     let m = c .read .ensures .keeps in
     let t = full-below k _ (s .torn) (s .given) h (g .L·Line .heard below) (none-waiting (s .at) (s .end) (s .ready) (c .if-self .left) w) (c .if-self-2 .left)
-        (o .left ∙ ap (λ z. past z h) e) (b .given) group (b .ready) (Clean 0) l same (m .ready) (m .given) in
+    (o .left ∙ ap (λ z. past z h) e) (b .given) group (b .ready) (Clean 0) l same (m .ready) (m .given) in
     record {
       answers = ap (λ z. Ok (Some z)) (c .read .ensures .first) ∙ t .answers;
       left = same-meaning k (g .L·Line .heard) b 1 (k .plain) (b .ready) (s .torn) (b .given) below (m .at) (m .end) refl (m .torn) refl (m .below) ∙ t .left;
