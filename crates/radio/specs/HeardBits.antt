@@ -7,10 +7,10 @@ use lib.ListN.{length, getD, take, drop}
 use Rattle.refusal.specs.declared.Cause.the-variants.{Dry, Cut}
 use Rattle.radio.specs.declared.symbol.Symbol.{Symbol}
 use Rattle.radio.specs.declared.symbol.Symbol.the-variants.{Clean, Spoiled}
-use Rattle.radio.specs.Reception.{Reception, whole, made-at, ending-in, before, unopened}
+use Rattle.radio.specs.Reception.{Reception, whole, made-at, ending-in, before}
 use Rattle.radio.specs.declared.here.Here.{Here}
 use Rattle.radio.specs.Standing.{Stands}
-use Rattle.radio.specs.Lines.{Heard, at-bottom, to-come}
+use Rattle.radio.specs.Lines.{Heard, at-bottom, present-of, to-come}
 
 -- the n lowest bits of a number, the lowest first
 abbrev pub odd : ℕ → Bool
@@ -88,14 +88,10 @@ receptions-from zero (b ∷ rest) = cond (sign-here (b ∷ rest)) (reception-fro
 abbrev pub receptions : List ℕ → List Reception
 receptions bytes = receptions-from 0 (bits-of bytes)
 
--- what a bit line means that stands at a bit place of its bytes and has given n symbols: nothing is present before the
--- first opening, and nothing is to come once no sign was found
-abbrev pub present-at : Bool → ℕ → List Bool → Reception
-present-at false n rest = unopened
-present-at true n rest = reception-from 0 n rest
-
+-- what a bit line means that stands at a bit place of its bytes and has given n symbols
 abbrev pub bits-heard : Bool → Bool → ℕ → ℕ → List ℕ → Heard
-bits-heard begun quiet n place bytes = at-bottom (present-at begun n (drop place (bits-of bytes))) (to-come quiet (receptions-from 0 (drop place (bits-of bytes))))
+bits-heard begun quiet n place bytes =
+    at-bottom (present-of begun (reception-from 0 n (drop place (bits-of bytes)))) (to-come quiet (receptions-from 0 (drop place (bits-of bytes))))
 
 -- what here stands at the place of a line that has been opened
 abbrev pub Bits-stand : Here → Bool → Bool → ℕ → ℕ → List ℕ → Type 0
