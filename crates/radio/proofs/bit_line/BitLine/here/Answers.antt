@@ -7,7 +7,8 @@ use Rattle.std.proofs.shelf.Lists.{drop-drop, length-drop}
 use Rattle.refusal.specs.declared.Cause.the-variants.{Dry, Cut}
 use Rattle.radio.specs.Reception.{whole, made-at, before}
 use Rattle.radio.specs.Lines.{to-come}
-use Rattle.radio.specs.HeardBits.{bits-of, low-bits, symbol-here, reception-from, receptions-from}
+use Rattle.radio.specs.Bits.{bits, bits-of}
+use Rattle.radio.specs.HeardBits.{symbol-here, reception-from, receptions-from}
 use Rattle.radio.proofs.AtBottom.{takes-end, takes-next}
 use Rattle.radio.proofs.BitSteps.{looked, some-of-ten, none-of-ten, none-within, passed, cut-at, dry-at, whole-at, symbol-at, same-symbol}
 use Rattle.radio.proofs.LowBits.{length-bits}
@@ -22,7 +23,7 @@ returns-then-is-some c =
     let s = c .args .self .now in
     let rest = drop (s .place) (bits-of (s .bytes .now)) in
     let n = 8 * length (s .bytes .now) - s .place in
-    let seen = looked (low-bits n (c .window-bits .result)) rest (c .first-sign .result) (c .window-bits .ensures) (c .first-sign .ensures) in
+    let seen = looked (bits n (c .window-word .result)) rest (c .first-sign .result) (c .window-word .ensures) (c .first-sign .ensures) in
     takes-end (s .begun) (reception-from 0 (s .given) rest) (to-come (s .quiet) (receptions-from 0 rest)) (made-at Cut (s .given)) (c .pre)
     (cut-at (s .given) rest (some-of-ten rest (c .first-sign .result) seen (sym (c .if-is-some .ensures tt))))
 
@@ -31,7 +32,7 @@ returns-then-left-lt10 c =
     let s = c .args .self .now in
     let rest = drop (s .place) (bits-of (s .bytes .now)) in
     let n = 8 * length (s .bytes .now) - s .place in
-    let seen = looked (low-bits n (c .window-bits .result)) rest (c .first-sign .result) (c .window-bits .ensures) (c .first-sign .ensures) in
+    let seen = looked (bits n (c .window-word .result)) rest (c .first-sign .result) (c .window-word .ensures) (c .first-sign .ensures) in
     let free = none-of-ten rest (c .first-sign .result) seen (sym (c .if-is-some .ensures tt)) in
     let few = left-at (s .bytes .now) (s .place) in
     let h : length rest < 10 = omega (arith, c .if-left-lt10 .taken) in
@@ -43,30 +44,30 @@ returns-then-ends-it c =
     let s = c .args .self .now in
     let rest = drop (s .place) (bits-of (s .bytes .now)) in
     let n = 8 * length (s .bytes .now) - s .place in
-    let front = low-bits n (c .window-bits .result) in
-    let seen = looked front rest (c .first-sign .result) (c .window-bits .ensures) (c .first-sign .ensures) in
+    let front = bits n (c .window-word .result) in
+    let seen = looked front rest (c .first-sign .result) (c .window-word .ensures) (c .first-sign .ensures) in
     let free = none-of-ten rest (c .first-sign .result) seen (sym (c .if-is-some .ensures tt)) in
     let many = left-at (s .bytes .now) (s .place) in
     let h : 10 ≤ length rest = omega (arith, c .if-left-lt10 .left) in
-    let e = sym (c .framed-symbol .ensures ∙ same-symbol front rest (c .window-bits .ensures)) in
+    let e = sym (c .framed-symbol .ensures ∙ same-symbol front rest (c .window-word .ensures)) in
     takes-end (s .begun) (reception-from 0 (s .given) rest) (to-come (s .quiet) (receptions-from 0 rest)) whole (c .pre)
     (whole-at (s .given) rest (c .framed-symbol .result) free h e (sym (c .if-ends-it .ensures tt)))
 
 pub returns : need.returns
 returns c =
     let s = c .args .self .now in
-    let bits = bits-of (s .bytes .now) in
-    let rest = drop (s .place) bits in
-    let more = drop (s .place + 10) bits in
+    let all = bits-of (s .bytes .now) in
+    let rest = drop (s .place) all in
+    let more = drop (s .place + 10) all in
     let n = 8 * length (s .bytes .now) - s .place in
-    let front = low-bits n (c .window-bits .result) in
-    let seen = looked front rest (c .first-sign .result) (c .window-bits .ensures) (c .first-sign .ensures) in
+    let front = bits n (c .window-word .result) in
+    let seen = looked front rest (c .first-sign .result) (c .window-word .ensures) (c .first-sign .ensures) in
     let free = none-of-ten rest (c .first-sign .result) seen (sym (c .if-is-some .ensures tt)) in
     let many = left-at (s .bytes .now) (s .place) in
     let h : 10 ≤ length rest = omega (arith, c .if-left-lt10 .left) in
     let symbol = c .framed-symbol .result in
-    let e = sym (c .framed-symbol .ensures ∙ same-symbol front rest (c .window-bits .ensures)) in
-    let d = drop-drop 10 (s .place) bits in (
+    let e = sym (c .framed-symbol .ensures ∙ same-symbol front rest (c .window-word .ensures)) in
+    let d = drop-drop 10 (s .place) all in (
       omega arith,
       takes-next (s .begun) (reception-from 0 (s .given) rest) (reception-from 0 (s .given + 1) more) (to-come (s .quiet) (receptions-from 0 rest)) (to-come (s .quiet) (receptions-from 0 more)) symbol (c .pre)
           (symbol-at (s .given) rest symbol free h e (sym (c .if-ends-it .ensures tt))
