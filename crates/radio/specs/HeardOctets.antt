@@ -6,10 +6,10 @@ use lib.Dec.{eqb}
 use lib.ListN.{length, drop}
 use Rattle.refusal.specs.declared.Cause.the-variants.{Dry, Cut}
 use Rattle.radio.specs.declared.symbol.Symbol.the-variants.{Clean}
-use Rattle.radio.specs.Reception.{Reception, whole, made-at, ending-in, before, unopened}
+use Rattle.radio.specs.Reception.{Reception, whole, made-at, ending-in, before}
 use Rattle.radio.specs.declared.here.Here.{Here}
 use Rattle.radio.specs.Standing.{Stands}
-use Rattle.radio.specs.Lines.{Heard, at-bottom, to-come, tail}
+use Rattle.radio.specs.Lines.{Heard, at-bottom, present-of, to-come, tail}
 
 -- a sign starts here: F0, directly followed by CC
 abbrev pub sign-here : List ℕ → Bool
@@ -31,14 +31,9 @@ abbrev pub receptions : List ℕ → List Reception
 receptions [] = []
 receptions (x ∷ rest) = cond (sign-here (x ∷ rest)) (reception-from 0 (tail rest) ∷ receptions rest) (receptions rest)
 
--- what an octet line means that stands at a place of its bytes and has given n symbols: nothing is present before the
--- first opening, and nothing is to come once no sign was found
-abbrev pub present-at : Bool → ℕ → List ℕ → Reception
-present-at false n rest = unopened
-present-at true n rest = reception-from n rest
-
+-- what an octet line means that stands at a place of its bytes and has given n symbols
 abbrev pub octets-heard : Bool → Bool → ℕ → ℕ → List ℕ → Heard
-octets-heard begun quiet n place bytes = at-bottom (present-at begun n (drop place bytes)) (to-come quiet (receptions (drop place bytes)))
+octets-heard begun quiet n place bytes = at-bottom (present-of begun (reception-from n (drop place bytes))) (to-come quiet (receptions (drop place bytes)))
 
 -- what here stands at the place of a line that has been opened
 abbrev pub Octets-stand : Here → Bool → Bool → ℕ → ℕ → List ℕ → Type 0

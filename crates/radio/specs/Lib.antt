@@ -4,5 +4,6 @@ pub mod Lines
 pub mod Piles
 pub mod Standing
 pub mod HeardOctets
+pub mod Bits
 pub mod HeardBits
 pub mod Looks

@@ -12,7 +12,7 @@ use Rattle.refusal.specs.declared.Fault.{Fault}
 use Rattle.refusal.specs.declared.Refusal.{Refusal}
 use Rattle.refusal.specs.declared.Refusal.the-variants.{Quiet}
 use Rattle.radio.specs.declared.symbol.Symbol.{Symbol}
-use Rattle.radio.specs.Reception.{Reception, Ending, whole, fault}
+use Rattle.radio.specs.Reception.{Reception, Ending, whole, fault, unopened}
 use Rattle.radio.specs.Layer.{Pile, unit-of, read-through}
 
 pub record Heard : Type 0 where
@@ -37,6 +37,11 @@ pub record Sound (h : Heard) : Type 0 where
 -- what a bottom of unit 1 means
 abbrev pub at-bottom : Reception → List Reception → Heard
 at-bottom p cs = record { present = p; coming = cs; pile = []; air = cs; ground = 1 }
+
+-- nothing is present at a bottom before the first opening
+abbrev pub present-of : Bool → Reception → Reception
+present-of false r = unopened
+present-of true r = r
 
 -- nothing is to come at a bottom whose search for the next sign found none
 abbrev pub to-come : Bool → List Reception → List Reception

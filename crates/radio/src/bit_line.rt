@@ -3,8 +3,9 @@ ghost use mathlib.Core.List.{[], _∷_};
 ghost use mathlib.Core.Path.{_≡_};
 ghost use Prim.Native.Nat.{_+_, _*_, _≤_};
 ghost use lib.ListN.{length, take, drop};
-ghost use Rattle.radio.specs.HeardBits.{Bits-stand, bits-of, receptions, receptions-from, reception-from, bits-heard, present-at};
-ghost use Rattle.radio.specs.Lines.{at-bottom, bottom-sound, to-come};
+ghost use Rattle.radio.specs.Bits.{bits-of};
+ghost use Rattle.radio.specs.HeardBits.{Bits-stand, receptions, receptions-from, reception-from, bits-heard};
+ghost use Rattle.radio.specs.Lines.{at-bottom, bottom-sound, present-of, to-come};
 ghost use Rattle.radio.specs.Reception.{unopened};
 ghost use Rattle.std.specs.Options.{Cases};
 use crate::bits::ends_it;
@@ -57,15 +58,15 @@ impl<'a> BitLine<'a> {
         requires { ⌜ now self .begun ≡ true ⌝ }
         ensures { λ r. ⌜ Bits-stand r (now (self .entry) .begun) (now (self .entry) .quiet) (now (self .entry) .given) (now (self .entry) .place) (now (now (self .entry) .bytes)) ⌝ }
     {
-        let bits = window(self.bytes, self.place);
+        let word = window(self.bytes, self.place);
         let left = (8 * self.bytes.len() - self.place) as u32;
-        if first_sign(bits, left).is_some() {
+        if first_sign(word, left).is_some() {
             return Here::Sign;
         }
         if left < 10 {
             return Here::Nothing;
         }
-        let symbol = framed(bits, left);
+        let symbol = framed(word, left);
         if ends_it(symbol) {
             return Here::End;
         }
@@ -76,7 +77,7 @@ impl<'a> BitLine<'a> {
 pub impl<'a> Line for BitLine<'a> as BitLineLine {
     ghost heard = { λ s. bits-heard (s .begun) (s .quiet) (s .given) (s .place) (s .bytes .now) };
 
-    ghost sound = { λ s. bottom-sound (present-at (s .begun) (s .given) (drop (s .place) (bits-of (s .bytes .now)))) (to-come (s .quiet) (receptions-from 0 (drop (s .place) (bits-of (s .bytes .now))))) };
+    ghost sound = { λ s. bottom-sound (present-of (s .begun) (reception-from 0 (s .given) (drop (s .place) (bits-of (s .bytes .now))))) (to-come (s .quiet) (receptions-from 0 (drop (s .place) (bits-of (s .bytes .now))))) };
 
     fn open(&mut self) -> Result<(), Refusal> {
         if self.quiet {

@@ -1,7 +1,8 @@
 ghost use mathlib.Core.Path.{_≡_};
 ghost use Prim.Native.Nat.{_-_, _*_, _<_, _≤_};
 ghost use lib.ListN.{length, getD, take, drop};
-ghost use Rattle.radio.specs.HeardBits.{low-bits, bits-of, ends-it, sign-here, symbol-here};
+ghost use Rattle.radio.specs.Bits.{bits, bits-of};
+ghost use Rattle.radio.specs.HeardBits.{ends-it, sign-here, symbol-here};
 ghost use Rattle.radio.specs.Looks.{First-of-ten};
 use crate::symbol::Symbol;
 
@@ -15,11 +16,11 @@ const SIGN_MASK: u32 = 0xF_FFFF;
 const END: u8 = 0x33;
 
 /// The least of ten places at which a whole sign begins in the first `count` bits, the first bit lowest.
-pub(crate) fn first_sign(bits: u32, count: u32) -> Option<u32>
-    ensures { λ r. ⌜ First-of-ten (low-bits count bits) r ⌝ }
+pub(crate) fn first_sign(word: u32, count: u32) -> Option<u32>
+    ensures { λ r. ⌜ First-of-ten (bits count word) r ⌝ }
 {
     for k in 0..10 {
-        if sign_at(bits, count, k) {
+        if sign_at(word, count, k) {
             return Some(k);
         }
     }
@@ -27,20 +28,20 @@ pub(crate) fn first_sign(bits: u32, count: u32) -> Option<u32>
 }
 
 /// Whether a whole sign begins at a place in the first `count` bits.
-fn sign_at(bits: u32, count: u32, k: u32) -> bool
+fn sign_at(word: u32, count: u32, k: u32) -> bool
     requires { ⌜ k < 10 ⌝ }
-    ensures { λ r. ⌜ r ≡ sign-here (drop k (low-bits count bits)) ⌝ }
+    ensures { λ r. ⌜ r ≡ sign-here (drop k (bits count word)) ⌝ }
 {
-    k + 20 <= count && (bits >> k) & SIGN_MASK == SIGN
+    k + 20 <= count && (word >> k) & SIGN_MASK == SIGN
 }
 
 /// The symbol in the ten lowest bits.
-pub(crate) fn framed(bits: u32, count: u32) -> Symbol
+pub(crate) fn framed(word: u32, count: u32) -> Symbol
     requires { ⌜ 10 ≤ count ⌝ }
-    ensures { λ r. ⌜ r ≡ symbol-here (low-bits count bits) ⌝ }
+    ensures { λ r. ⌜ r ≡ symbol-here (bits count word) ⌝ }
 {
-    if bits & 1 == 1 && (bits >> 9) & 1 == 0 {
-        Symbol::Clean(((bits >> 1) & 0xFF) as u8)
+    if word & 1 == 1 && (word >> 9) & 1 == 0 {
+        Symbol::Clean(((word >> 1) & 0xFF) as u8)
     } else {
         Symbol::Spoiled
     }
@@ -59,7 +60,7 @@ pub(crate) fn ends_it(symbol: Symbol) -> bool
 /// The bits from a place on, the first bit lowest: 29 of them, or as many as there are.
 pub(crate) fn window(bytes: &[u8], place: usize) -> u32
     requires { ⌜ place ≤ 8 * length (now bytes) ⌝ }
-    ensures { λ r. ⌜ take 29 (low-bits (8 * length (now (bytes .entry)) - place) r) ≡ take 29 (drop place (bits-of (now (bytes .entry)))) ⌝ }
+    ensures { λ r. ⌜ take 29 (bits (8 * length (now (bytes .entry)) - place) r) ≡ take 29 (drop place (bits-of (now (bytes .entry)))) ⌝ }
 {
     let first = place / 8;
     let word = byte_at(bytes, first)

@@ -3,8 +3,8 @@ ghost use mathlib.Core.List.{[], _∷_};
 ghost use mathlib.Core.Path.{_≡_};
 ghost use Prim.Native.Nat.{_+_, _≤_};
 ghost use lib.ListN.{length, take, drop};
-ghost use Rattle.radio.specs.HeardOctets.{Octets-stand, sign-here, receptions, reception-from, octets-heard, present-at};
-ghost use Rattle.radio.specs.Lines.{at-bottom, bottom-sound, to-come};
+ghost use Rattle.radio.specs.HeardOctets.{Octets-stand, sign-here, receptions, reception-from, octets-heard};
+ghost use Rattle.radio.specs.Lines.{at-bottom, bottom-sound, present-of, to-come};
 ghost use Rattle.radio.specs.Reception.{unopened};
 ghost use Rattle.std.specs.Options.{Cases};
 use crate::here::Here;
@@ -75,7 +75,7 @@ impl<'a> OctetLine<'a> {
 pub impl<'a> Line for OctetLine<'a> as OctetLineLine {
     ghost heard = { λ s. octets-heard (s .begun) (s .quiet) (s .given) (s .place) (s .bytes .now) };
 
-    ghost sound = { λ s. bottom-sound (present-at (s .begun) (s .given) (drop (s .place) (s .bytes .now))) (to-come (s .quiet) (receptions (drop (s .place) (s .bytes .now)))) };
+    ghost sound = { λ s. bottom-sound (present-of (s .begun) (reception-from (s .given) (drop (s .place) (s .bytes .now)))) (to-come (s .quiet) (receptions (drop (s .place) (s .bytes .now)))) };
 
     fn open(&mut self) -> Result<(), Refusal> {
         if self.quiet {

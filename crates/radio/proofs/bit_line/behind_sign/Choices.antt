@@ -1,7 +1,8 @@
 use mathlib.Core.Path.{_≡_}
 use Prim.Native.Nat.{_+_, _-_, _*_, _≤_}
 use lib.ListN.{length, drop}
-use Rattle.radio.specs.HeardBits.{bits-of, receptions-from}
+use Rattle.radio.specs.Bits.{bits-of}
+use Rattle.radio.specs.HeardBits.{receptions-from}
 use Rattle.radio.proofs.bit_line.behind_sign.Given as given
 
 abbrev pub Inv-loop-place : given.InvT-loop-place

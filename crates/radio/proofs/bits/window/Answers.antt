@@ -4,7 +4,7 @@ use native.Mathlib.Omega.{arith}
 use borrow.Author.Needs.{needs}
 use lib.ListN.{length, getD, take}
 use Rattle.std.proofs.shelf.Bits.{and-mask}
-use Rattle.radio.specs.HeardBits.{low-bits}
+use Rattle.radio.specs.Bits.{bits}
 use Rattle.radio.proofs.LowBits.{window-at}
 use Rattle.radio.proofs.bits.window.Needs as need
 
@@ -29,4 +29,4 @@ returns c =
     let n3 = small (p / 8 + 3) in
     let n4 = small (p / 8 + 4) in
     let s = shifted (c .byte-at .result) (c .byte-at-2 .result) (c .byte-at-3 .result) (c .byte-at-4 .result) (c .byte-at-5 .result) (omega arith) (omega arith) (omega arith) (omega arith) in
-    ap (λ v. take 29 (low-bits (8 * length xs - p) v)) (and-mask _ 29) ∙ window-at xs small p _ (s ∙ cc)
+    ap (λ v. take 29 (bits (8 * length xs - p) v)) (and-mask _ 29) ∙ window-at xs small p _ (s ∙ cc)

@@ -1,43 +1,37 @@
-use mathlib.Core.Path.{_≡_, sym, ap, _∙_}
-use mathlib.Core.Bool.{Bool, true}
-use mathlib.Core.List.{List}
-use Prim.Native.Nat.{ℕ, _+_}
+use mathlib.Core.Path.{sym, ap}
+use Prim.Native.Nat.{_+_}
 use native.Mathlib.Omega.{arith}
 use borrow.Author.Tests.{eq-eqb, ne-eqb}
 use lib.ListN.{getD, drop}
 use Rattle.refusal.specs.declared.Cause.the-variants.{Dry, Cut}
 use Rattle.radio.specs.declared.symbol.Symbol.the-variants.{Clean}
-use Rattle.radio.specs.Reception.{whole, made-at, before}
+use Rattle.radio.specs.Reception.{whole, made-at}
 use Rattle.radio.specs.Lines.{to-come}
-use Rattle.radio.specs.HeardOctets.{present-at, reception-from, receptions}
+use Rattle.radio.specs.HeardOctets.{reception-from, receptions}
 use Rattle.radio.proofs.AtBottom.{takes-end, takes-next}
 use Rattle.radio.proofs.OctetSteps.{dry-at, cut-at, whole-at, octet-at, passed}
 use Rattle.radio.proofs.octet_line.OctetLine.here.Needs as need
-
--- what is present once a reception has been opened
-open-at : (b : Bool) (n : ℕ) (rest : List ℕ) → b ≡ true → present-at b n rest ≡ reception-from n rest
-open-at b n rest e = ap (λ t. present-at t n rest) e
 
 pub returns-then-self : need.returns-then-self
 returns-then-self c =
     let s = c .args .self .now in
     let rest = drop (s .place) (s .bytes .now) in
-    takes-end (present-at (s .begun) (s .given) rest) (to-come (s .quiet) (receptions rest)) (made-at Dry (s .given))
-    (open-at (s .begun) (s .given) rest (c .pre) ∙ dry-at (s .bytes .now) (s .place) (s .given) (c .if-self .taken))
+    takes-end (s .begun) (reception-from (s .given) rest) (to-come (s .quiet) (receptions rest)) (made-at Dry (s .given)) (c .pre)
+    (dry-at (s .bytes .now) (s .place) (s .given) (c .if-self .taken))
 
 pub returns-then-sign-at : need.returns-then-sign-at
 returns-then-sign-at c =
     let s = c .args .self .now in
     let rest = drop (s .place) (s .bytes .now) in
-    takes-end (present-at (s .begun) (s .given) rest) (to-come (s .quiet) (receptions rest)) (made-at Cut (s .given))
-    (open-at (s .begun) (s .given) rest (c .pre) ∙ cut-at (s .bytes .now) (s .place) (s .given) (sym (c .if-sign-at .ensures tt)))
+    takes-end (s .begun) (reception-from (s .given) rest) (to-come (s .quiet) (receptions rest)) (made-at Cut (s .given)) (c .pre)
+    (cut-at (s .bytes .now) (s .place) (s .given) (sym (c .if-sign-at .ensures tt)))
 
 pub returns-then-octet-eq-END : need.returns-then-octet-eq-END
 returns-then-octet-eq-END c =
     let s = c .args .self .now in
     let rest = drop (s .place) (s .bytes .now) in
-    takes-end (present-at (s .begun) (s .given) rest) (to-come (s .quiet) (receptions rest)) whole
-    (open-at (s .begun) (s .given) rest (c .pre) ∙ whole-at (s .bytes .now) (s .place) (s .given) (c .if-self .left) (sym (c .if-sign-at .ensures tt)) (eq-eqb _ 0x33 (c .if-octet-eq-END .taken)))
+    takes-end (s .begun) (reception-from (s .given) rest) (to-come (s .quiet) (receptions rest)) whole (c .pre)
+    (whole-at (s .bytes .now) (s .place) (s .given) (c .if-self .left) (sym (c .if-sign-at .ensures tt)) (eq-eqb _ 0x33 (c .if-octet-eq-END .taken)))
 
 pub returns : need.returns
 returns c =
@@ -47,9 +41,7 @@ returns c =
     let octet = Clean (getD (s .bytes .now) (s .place) 0) in
     let free = sym (c .if-sign-at .ensures tt) in (
       omega arith,
-      takes-next (present-at (s .begun) (s .given) rest) (present-at (s .begun) (s .given + 1) more) (to-come (s .quiet) (receptions rest)) (to-come (s .quiet) (receptions more)) octet
-          (open-at (s .begun) (s .given) rest (c .pre)
-          ∙ octet-at (s .bytes .now) (s .place) (s .given) (c .if-self .left) free (ne-eqb _ 0x33 (c .if-octet-eq-END .left))
-          ∙ ap (before octet) (sym (open-at (s .begun) (s .given + 1) more (c .pre))))
+      takes-next (s .begun) (reception-from (s .given) rest) (reception-from (s .given + 1) more) (to-come (s .quiet) (receptions rest)) (to-come (s .quiet) (receptions more)) octet (c .pre)
+          (octet-at (s .bytes .now) (s .place) (s .given) (c .if-self .left) free (ne-eqb _ 0x33 (c .if-octet-eq-END .left)))
           (ap (to-come (s .quiet)) (passed (s .bytes .now) (s .place) (c .if-self .left) free)),
     )
