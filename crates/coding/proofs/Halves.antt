@@ -22,7 +22,7 @@ use Rattle.radio.specs.Lines.{Heard, next, taken, tail}
 use Rattle.coding.specs.Regroup.{regroup, left-over, regroup-short, left-over-short, regroup-first, left-over-first}
 use Rattle.coding.specs.Grouping.{Grouping, ending-above, resumed}
 use Rattle.coding.specs.Half.{held, half, over, waiting}
-use Rattle.coding.specs.Gather.{beyond, past}
+use Rattle.radio.specs.Lines.{beyond, past}
 use Rattle.coding.specs.Meaning.{meaning}
 use Rattle.coding.specs.declared.reading.Reading.{Reading}
 

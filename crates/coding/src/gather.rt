@@ -1,7 +1,8 @@
 ghost use mathlib.Core.Path.{_≡_};
 ghost use Prim.Native.Nat.{_≤_};
 ghost use Rattle.radio.specs.Reception.{raised};
-ghost use Rattle.coding.specs.Gather.{Gathered, past};
+ghost use Rattle.radio.specs.Lines.{past};
+ghost use Rattle.coding.specs.Gather.{Gathered};
 use radio::line::Line;
 use radio::symbol::Symbol;
 use refusal::Fault;

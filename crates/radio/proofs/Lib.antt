@@ -3,3 +3,4 @@ pub mod AtBottom
 pub mod OctetSteps
 pub mod LowBits
 pub mod BitSteps
+pub mod Taking

@@ -4,6 +4,7 @@ use mathlib.Core.List.{List, [], _∷_, map}
 use mathlib.Core.Bool.{Bool, true, false}
 use Prim.Native.Nat.{ℕ, _≤_}
 use lib.Dec.{lit≤}
+use lib.ListN.{drop}
 use Rattle.std.specs.declared.option.Option.{Option}
 use Rattle.std.specs.declared.option.Option.the-variants.{Some, None}
 use Rattle.std.specs.declared.result.Result.{Result}
@@ -92,3 +93,10 @@ taken h = record { present = record { symbols = tail (h .present .symbols); endi
 -- what a take answers, and what it leaves of what the line meant
 abbrev pub Takes : Heard → Result (Option Symbol) Fault → Heard → Type 0
 Takes a r b = (r ≡ next (a .present)) × (b ≡ taken a)
+
+-- what is left of a reception, and of a line, once n symbols are taken
+abbrev pub beyond : ℕ → Reception → Reception
+beyond n p = record { symbols = drop n (p .symbols); ending = p .ending }
+
+abbrev pub past : ℕ → Heard → Heard
+past n h = record { present = beyond n (h .present); coming = h .coming; pile = h .pile; air = h .air; ground = h .ground }

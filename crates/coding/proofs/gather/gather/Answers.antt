@@ -10,7 +10,7 @@ use Rattle.std.specs.declared.result.Result.the-variants.{Ok}
 use Rattle.radio.specs.Lines.{next}
 use Rattle.coding.specs.Gather.{Gathered}
 use Rattle.coding.specs.declared.gather.Raised.{Raised}
-use Rattle.coding.proofs.Taking.{some-next, none-next, fault-next}
+use Rattle.radio.proofs.Taking.{some-next, none-next, fault-next}
 use Rattle.coding.proofs.gather.gather.Needs as need
 
 pub returns-in-Break-s : need.returns-in-Break-s

@@ -1,7 +1,7 @@
 use mathlib.Core.Path.{_≡_}
 use Prim.Native.Nat.{_≤_}
 use lib.ListN.{length, take}
-use Rattle.coding.specs.Gather.{past}
+use Rattle.radio.specs.Lines.{past}
 use Rattle.coding.proofs.gather.gather.Given as given
 
 abbrev pub Inv-loop-i : given.InvT-loop-i

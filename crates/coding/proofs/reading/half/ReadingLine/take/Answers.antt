@@ -9,7 +9,7 @@ use Rattle.std.proofs.shelf.Results.{err-from-errBy}
 use Rattle.std.specs.declared.option.Option.the-variants.{Some}
 use Rattle.std.specs.declared.result.Result.the-variants.{Ok, Err}
 use Rattle.radio.specs.declared.symbol.Symbol.the-variants.{Clean}
-use Rattle.coding.specs.Gather.{past}
+use Rattle.radio.specs.Lines.{past}
 use Rattle.coding.proofs.Halves.{ready-taken, torn-again, none-waiting, fault-below, end-below, tear-below, full-below, same-meaning}
 use Rattle.coding.proofs.reading.half.ReadingLine.take.Needs as need
 

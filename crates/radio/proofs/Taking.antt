@@ -9,10 +9,9 @@ use Rattle.std.proofs.shelf.Lists.{getD-drop, drop-drop, take-more, take-more-s
 use Rattle.std.specs.declared.option.Option.the-variants.{Some, None}
 use Rattle.std.specs.declared.result.Result.the-variants.{Ok, Err}
 use Rattle.refusal.specs.declared.Fault.{Fault}
 use Rattle.radio.specs.declared.symbol.Symbol.{Symbol}
 use Rattle.radio.specs.Reception.{Ending, whole, fault}
-use Rattle.radio.specs.Lines.{Heard, ended, first, next, taken, tail}
-use Rattle.coding.specs.Gather.{past}
+use Rattle.radio.specs.Lines.{Heard, ended, first, next, taken, tail, past}
 
 end-not-some : (e : Ending) (s : Symbol) → Ok (Some s) ≡ ended e → ⊥
 end-not-some whole s q = let z : _≡_ {A = ℕ} 0 1 = cc in omega arith
@@ -50,6 +49,13 @@ module _ (i : ℕ) (h q : Heard) (e : q ≡ past i h) where
 
   dropped : q .present .symbols ≡ drop i (h .present .symbols)
   dropped = ap (λ z. z .present .symbols) e
+
+  -- one more symbol was there
+  pub more-next : (s : Symbol) → Ok (Some s) ≡ next (q .present) → (i + 1 ≤ length (h .present .symbols)) × (taken q ≡ past (i + 1) h)
+  more-next s o =
+      let ss = h .present .symbols in
+      let d : drop i ss ≡ s ∷ tail (q .present .symbols) = sym dropped ∙ first-some (q .present .symbols) (q .present .ending) s o in
+      (omega (arith, length-drop i ss, ap length d), taken-past)
 
   pub some-next : (s : Symbol) (g : List Symbol) → take i g ≡ take i (h .present .symbols) → i < length g → Ok (Some s) ≡ next (q .present) →
       (i + 1 ≤ length (h .present .symbols)) × (take (i + 1) (set g i s) ≡ take (i + 1) (h .present .symbols)) × (taken q ≡ past (i + 1) h)
