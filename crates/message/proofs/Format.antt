@@ -63,10 +63,10 @@ record Headed (k : ℕ) (d : Option ℕ) (s n : ℕ) : Type 0 where
   has-source : (rest : List ℕ) → source (head k d s n ++ rest) ≡ s
   has-destination : (rest : List ℕ) → destination (head k d s n ++ rest) ≡ d
 
-within-parts : (low high x : ℕ) → within low high x ≡ true → (low ≤ x) × (x ≤ high)
+pub within-parts : (low high x : ℕ) → within low high x ≡ true → (low ≤ x) × (x ≤ high)
 within-parts low high x e = let p = and-parts (leb low x) (leb x high) e in (leb-true low x (p .0), leb-true x high (p .1))
 
-within-from : (low high x : ℕ) → (low ≤ x) × (x ≤ high) → within low high x ≡ true
+pub within-from : (low high x : ℕ) → (low ≤ x) × (x ≤ high) → within low high x ≡ true
 within-from low high x h = and-from (leb low x) (leb x high) (le-leb low x (h .0)) (le-leb x high (h .1))
 
 headed : (k : ℕ) (d : Option ℕ) (s n : ℕ) → n ≤ 66 → admits k d s ≡ true → Headed k d s n
@@ -295,7 +295,7 @@ decides-leb a b = (leb-true a b, le-leb a b)
 decides-within : (low high x : ℕ) → Decides (within low high x) ((low ≤ x) × (x ≤ high))
 decides-within low high x = (within-parts low high x, within-from low high x)
 
-decides-addressed : (d : Option ℕ) → Decides (addressed d) (Addressed d)
+pub decides-addressed : (d : Option ℕ) → Decides (addressed d) (Addressed d)
 decides-addressed None = (λ _. tt, λ _. refl)
 decides-addressed (Some d) = decides-within 1 0xffff d
 

@@ -1,0 +1,9 @@
+pub mod Collecting
+pub mod Judged
+pub mod ReadSteps
+pub mod Receipt
+pub mod Spoilt
+pub mod Sums
+pub mod Worked
+pub mod Written
+pub mod Exactly
