@@ -1,3 +1,5 @@
 pub mod Reception
 pub mod Layer
 pub mod Lines
+pub mod Outlets
+pub mod Bottoms
