@@ -14,7 +14,7 @@ use Rattle.radio.specs.Outlets.{State, Goes-on, Begun, Ended, Put, laid-over, 
 use Rattle.radio.specs.Bottoms.{bottom, written-at, one-cell, over-octets, joined-one}
 
 module _ (memory : List ℕ) (n : ℕ) (xs : List ℕ) (k : ℕ) (at : k ≡ n + length xs) (fits : k ≤ length memory) where
-  front-length : length (take n memory ++ xs) ≡ k
+  pub front-length : length (take n memory ++ xs) ≡ k
   front-length =
       let e = length-append (take n memory) xs in
       let f : length (take n memory) ≡ n = length-take-le n memory (omega arith) in
@@ -114,8 +114,8 @@ pub octets-lay : (memory : List ℕ) (used : ℕ) (xs : List ℕ) (k : ℕ) (mem
 octets-lay memory used xs k memory′ at fits e = record {
   channel-is = ap (take k) e ∙ take-written memory used xs k at fits;
   memory-is =
-    let l = front-length memory used xs k at fits in
-    e ∙ sym (append-assoc (take used memory) xs (drop (used + length xs) memory))
-    ∙ ap (λ j. (take used memory ++ xs) ++ drop j memory) (sym (l ∙ at))
-    ∙ ap (λ ys. ys ++ drop (length ys) memory) (sym (joined-one (take used memory ++ xs)));
+      let l = front-length memory used xs k at fits in
+      e ∙ sym (append-assoc (take used memory) xs (drop (used + length xs) memory))
+      ∙ ap (λ j. (take used memory ++ xs) ++ drop j memory) (sym (l ∙ at))
+      ∙ ap (λ ys. ys ++ drop (length ys) memory) (sym (joined-one (take used memory ++ xs)));
 }

@@ -3,3 +3,4 @@ pub mod Layer
 pub mod Lines
 pub mod Outlets
 pub mod Bottoms
+pub mod Frames

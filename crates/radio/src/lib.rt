@@ -1,4 +1,5 @@
 //! What a radio line and an outlet mean, and the bottoms over plain memory.
+pub mod bit_outlet;
 pub mod line;
 pub mod octet_outlet;
 pub mod outlet;

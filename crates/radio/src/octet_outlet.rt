@@ -24,14 +24,24 @@ impl OctetOutlet {
         ensures { λ r. ⌜ over-octets (vec-items (r .memory)) (r .used) (r .turn) (r .room) ≡ fresh one-cell (vec-items memory) (min (vec-len memory) 65536) ⌝ }
     {
         let room = memory.len().min(65536) as u32;
-        OctetOutlet { memory, used: 0, turn: Turn::Idle, room }
+        OctetOutlet {
+            memory,
+            used: 0,
+            turn: Turn::Idle,
+            room,
+        }
     }
 
     /// Hands the memory back.
     pub fn into_memory(self) -> Vec<u8>
         ensures { λ r. ⌜ r ≡ self .memory ⌝ }
     {
-        let OctetOutlet { memory, used: _, turn: _, room: _ } = self;
+        let OctetOutlet {
+            memory,
+            used: _,
+            turn: _,
+            room: _,
+        } = self;
         memory
     }
 }

@@ -22,7 +22,7 @@ returns c =
     let i : c .loop-i .i ≡ c .args .preamble = search needs in
     let h : c .args .place + c .args .preamble < length (c .args .memory .now .items) = omega arith in
     let w : c .loop-i .memory .items ≡ written-at (c .args .memory .now .items) (c .args .place) (replicate (c .args .preamble) 240) =
-        c .loop-i .inv .0 ∙ ap (λ j. written-at (c .args .memory .now .items) (c .args .place) (replicate j 240)) i in
+    c .loop-i .inv .0 ∙ ap (λ j. written-at (c .args .memory .now .items) (c .args .place) (replicate j 240)) i in
     record {
       items = then-204 (c .args .memory .now .items) (c .loop-i .memory .items) (c .args .place) (c .args .preamble) w h;
       len = c .loop-i .inv .1;

@@ -19,5 +19,5 @@ returns c =
     record {
       answers = search needs;
       leaves = bottom-begun one-cell (take (s .used) m) m (take k (c .write-start .last .memory .items)) (c .write-start .last .memory .items) p (c .args .count)
-        (octets-lay m (s .used) (start p) k (c .write-start .last .memory .items) (omega arith) fits (c .write-start .ensures .items)) (s .turn) (s .room);
+          (octets-lay m (s .used) (start p) k (c .write-start .last .memory .items) (omega arith) fits (c .write-start .ensures .items)) (s .turn) (s .room);
     }

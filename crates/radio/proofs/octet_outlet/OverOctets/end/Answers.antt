@@ -16,5 +16,5 @@ returns-in-Owing-eq0 c =
     record {
       answers = search needs;
       leaves = bottom-ended one-cell (take (s .used) m) m (take (s .used + 1) (set m (s .used) 51)) (set m (s .used) 51)
-        (octets-lay m (s .used) (51 ∷ []) (s .used + 1) (set m (s .used) 51) refl (omega arith) (set-written m (s .used) 51 fits)) (s .turn) (s .room);
+          (octets-lay m (s .used) (51 ∷ []) (s .used + 1) (set m (s .used) 51) refl (omega arith) (set-written m (s .used) 51 fits)) (s .turn) (s .room);
     }

@@ -18,5 +18,5 @@ returns-in-Owing c =
     record {
       answers = search needs;
       leaves = bottom-put one-cell (take (s .used) m) m (x ∷ []) (take (s .used + 1) (set m (s .used) x)) (set m (s .used) x)
-        (octets-lay m (s .used) (x ∷ []) (s .used + 1) (set m (s .used) x) refl (omega arith) (set-written m (s .used) x fits)) (s .turn) (s .room) n (n - 1) (search needs) refl;
+          (octets-lay m (s .used) (x ∷ []) (s .used + 1) (set m (s .used) x) refl (omega arith) (set-written m (s .used) x fits)) (s .turn) (s .room) n (n - 1) (search needs) refl;
     }
