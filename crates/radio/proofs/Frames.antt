@@ -13,11 +13,8 @@ use Rattle.radio.specs.Layer.{Octets}
 use Rattle.radio.specs.Outlets.{laid-over, start}
 use Rattle.radio.specs.Bottoms.{written-at}
 use Rattle.radio.specs.Frames.{bits, number, bits-of, frame, unframed, Framed, Bits-pin-octets}
+use Rattle.radio.proofs.States.{joined-append}
 use Rattle.radio.proofs.Cells.{Lays, take-written, front-length, written-further}
-
-pub joined-append : (f : ℕ → List ℕ) (xs ys : List ℕ) → joined f (xs ++ ys) ≡ joined f xs ++ joined f ys
-joined-append f [] ys = refl
-joined-append f (x ∷ xs) ys = ap (λ zs. f x ++ zs) (joined-append f xs ys) ∙ sym (append-assoc (f x) (joined f xs) (joined f ys))
 
 pub bits-length : (n x : ℕ) → length (bits n x) ≡ n
 bits-length zero x = refl

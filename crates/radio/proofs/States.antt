@@ -67,3 +67,85 @@ module _ (p k : ℕ) (s : State) where
 
   pub no-form : (r : Refusal) → Err r ≡ answer (out-of-form p k s None) → Err r ≡ answer (begin-refusal p k s)
   no-form r e = ap answer (sym (form-no r (sym e) (unless (leb (needed p k s) (s .space)) Space None)))
+
+pub joined-append : (f : ℕ → List ℕ) (xs ys : List ℕ) → joined f (xs ++ ys) ≡ joined f xs ++ joined f ys
+joined-append f [] ys = refl
+joined-append f (x ∷ xs) ys = ap (λ zs. f x ++ zs) (joined-append f xs ys) ∙ sym (append-assoc (f x) (joined f xs) (joined f ys))
+
+-- the memory with more of the channel at its start
+pub laid-further : (cells : ℕ → List ℕ) (channel more memory : List ℕ) → laid-over cells (channel ++ more) (laid-over cells channel memory) ≡ laid-over cells (channel ++ more) memory
+laid-further cells channel more memory =
+    let J = joined cells channel in
+    let K = joined cells more in
+    let n : length (joined cells (channel ++ more)) ≡ length J + length K = ap length (joined-append cells channel more) ∙ length-append J K in
+    ap (λ ys. joined cells (channel ++ more) ++ ys)
+    (ap (λ k. drop k (J ++ drop (length J) memory)) n
+    ∙ sym (drop-drop (length K) (length J) (J ++ drop (length J) memory))
+    ∙ ap (drop (length K)) (drop-at J (drop (length J) memory) (length J) refl)
+    ∙ drop-drop (length K) (length J) memory
+    ∙ ap (λ k. drop k memory) (sym n)
+    )
+
+pub goes-nowhere : (s : State) → Sound s → Goes-on s s
+goes-nowhere s h = record { pile = refl; ground = refl; cells = refl; grows = ([], sym (append-nil (s .channel))); memory = h .laid }
+
+pub goes-further : (s t u : State) → Goes-on s t → Goes-on t u → Goes-on s u
+goes-further s t u g h = record {
+  pile = h .pile ∙ g .pile;
+  ground = h .ground ∙ g .ground;
+  cells = h .cells ∙ g .cells;
+  grows = (g .grows .0 ++ h .grows .0, h .grows .1 ∙ ap (λ c. c ++ h .grows .0) (g .grows .1) ∙ append-assoc (s .channel) (g .grows .0) (h .grows .0));
+  memory =
+      let e = h .grows .1 in
+      h .memory
+      ∙ ap (λ c. laid-over c (u .channel) (t .memory)) (g .cells)
+      ∙ ap (laid-over (s .cells) (u .channel)) (g .memory)
+      ∙ ap (λ c. laid-over (s .cells) c (laid-over (s .cells) (t .channel) (s .memory))) e
+      ∙ laid-further (s .cells) (t .channel) (h .grows .0) (s .memory)
+      ∙ ap (λ c. laid-over (s .cells) c (s .memory)) (sym e);
+}
+
+pub less-less : (t : Turn) (j k : ℕ) → less (less t j) k ≡ less t (j + k)
+less-less Idle j k = refl
+less-less (Owing n) j k = ap Owing (omega arith)
+less-less Stuck j k = refl
+
+less-none : (t : Turn) → t ≡ less t 0
+less-none Idle = refl
+less-none (Owing n) = ap Owing (omega arith)
+less-none Stuck = refl
+
+pub put-none : (s : State) → Sound s → Put [] s s
+put-none s h = record { turn = less-none (s .turn); space = refl; once-put = λ zs. refl; goes-on = goes-nowhere s h }
+
+pub put-further : (xs ys : List ℕ) (s t u : State) → Put xs s t → Put ys t u → Put (xs ++ ys) s u
+put-further xs ys s t u p q = record {
+  turn = q .turn ∙ ap (λ v. less v (length ys)) (p .turn) ∙ less-less (s .turn) (length xs) (length ys) ∙ ap (less (s .turn)) (sym (length-append xs ys));
+  space = q .space ∙ p .space;
+  once-put = λ zs. q .once-put zs ∙ p .once-put (ys ++ zs) ∙ ap (s .once-put) (sym (append-assoc xs ys zs));
+  goes-on = goes-further s t u (p .goes-on) (q .goes-on);
+}
+
+pub put-more : (xs : List ℕ) (i x : ℕ) (s t u : State) → i < length xs → x ≡ getD xs i 0 → Put (take i xs) s t → Put (x ∷ []) t u → Put (take (i + 1) xs) s u
+put-more xs i x s t u h e p q =
+    subst (λ (ys : List ℕ). Put ys s u) (ap (λ y. take i xs ++ (y ∷ [])) e ∙ sym (take-more xs i 0 h)) (put-further (take i xs) (x ∷ []) s t u p q)
+
+-- an octet that is owed is not refused
+pub put-accepted : (k n : ℕ) (t : Turn) → t ≡ Owing n → k ≤ n → Ok tt ≡ answer (put-refusal k t)
+put-accepted k n t e h = ap answer (sym (ap (put-refusal k) e ∙ ap (λ b. unless b Out-of-turn None) (le-leb k n h)))
+
+pub end-accepted : (t : Turn) → t ≡ Owing 0 → Ok tt ≡ answer (end-refusal t)
+end-accepted t e = ap (λ u. answer (end-refusal u)) (sym e)
+
+-- one whole message
+pub whole-message : (p : ℕ) (xs : List ℕ) (s t u v : State) → Sound u → Begun p (length xs) s t → Put xs t u → Ended u v → Written p xs s v
+whole-message p xs s t u v ok b q e = record {
+  turn = e .turn;
+  space = e .space ∙ q .space ∙ b .space;
+  channel =
+      e .channel
+      ∙ ap (λ c. c ++ stop) (ok .none-put ∙ q .once-put [] ∙ b .once-put (xs ++ []) ∙ ap (λ ys. t .channel ++ sent-through (s .pile) ys) (append-nil xs) ∙ ap (λ c. c ++ sent-through (s .pile) xs) (b .channel))
+      ∙ append-assoc (s .channel ++ start p) (sent-through (s .pile) xs) stop
+      ∙ append-assoc (s .channel) (start p) (sent-through (s .pile) xs ++ stop);
+  goes-on = goes-further s t v (b .goes-on) (goes-further t u v (q .goes-on) (e .goes-on));
+}

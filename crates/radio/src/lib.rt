@@ -5,3 +5,4 @@ pub mod octet_outlet;
 pub mod outlet;
 pub mod symbol;
 pub mod turn;
+pub mod write;
