@@ -9,6 +9,7 @@ mod gather;
 pub mod laws;
 pub mod manchester;
 pub mod reading;
+pub mod sending;
 pub mod standard;
 
 /// A coding of octets, group by group.

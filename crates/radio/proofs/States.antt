@@ -137,6 +137,14 @@ put-accepted k n t e h = ap answer (sym (ap (put-refusal k) e ∙ ap (λ b. unle
 pub end-accepted : (t : Turn) → t ≡ Owing 0 → Ok tt ≡ answer (end-refusal t)
 end-accepted t e = ap (λ u. answer (end-refusal u)) (sym e)
 
+-- what an accepted call leaves
+module _ {A : Type 0} (did : State → State → Type 0) (state : A → State) (r : Result (Unit {0}) Refusal) (a b : A) (ok : r ≡ Ok tt) where
+  pub did-ok : Leaves did state r a b → did (state a) (state b)
+  did-ok h = subst (λ (x : Result (Unit {0}) Refusal). Leaves did state x a b) ok h
+
+  pub leaves-ok : did (state a) (state b) → Leaves did state r a b
+  leaves-ok h = subst (λ (x : Result (Unit {0}) Refusal). Leaves did state x a b) (sym ok) h
+
 -- one whole message
 pub whole-message : (p : ℕ) (xs : List ℕ) (s t u v : State) → Sound u → Begun p (length xs) s t → Put xs t u → Ended u v → Written p xs s v
 whole-message p xs s t u v ok b q e = record {

@@ -3,12 +3,10 @@ use Prim.Native.Nat.{ℕ, _-_}
 use native.Mathlib.Omega.{arith}
 use borrow.Author.Needs.{needs}
 use lib.ListN.{length}
-use Rattle.std.specs.declared.result.Result.{Result}
 use Rattle.std.specs.declared.result.Result.the-variants.{Ok}
-use Rattle.refusal.specs.declared.Refusal.{Refusal}
 use Rattle.radio.specs.declared.turn.Turn.the-variants.{Owing}
-use Rattle.radio.specs.Outlets.{Put, Ended, Written, Leaves, answer, put-refusal, end-refusal, less}
-use Rattle.radio.proofs.States.{put-accepted, end-accepted, whole-message}
+use Rattle.radio.specs.Outlets.{Put, Ended, Written, answer, put-refusal, end-refusal, less}
+use Rattle.radio.proofs.States.{put-accepted, end-accepted, did-ok, leaves-ok, whole-message}
 use Rattle.radio.proofs.write.write_message.Needs as need
 
 pub returns-in-Break-put-all : need.returns-in-Break-put-all
@@ -29,10 +27,9 @@ returns g c =
     let all = c .in-Continue-put-all .ensures tt .leaves in
     let owed : u .turn ≡ Owing 0 = all .turn ∙ ap (λ t. less t (length xs)) (begun .turn) ∙ ap Owing (omega arith) in
     let ok : c .end .result ≡ Ok tt = c .end .ensures .answers ∙ sym (end-accepted (u .turn) owed) in
-    let at : Ended u (g .O·Outlet .state (c .end .last .self)) =
-    subst (λ (r : Result (Unit {0}) Refusal). Leaves Ended (g .O·Outlet .state) r (c .put-all .last .outlet) (c .end .last .self)) ok (c .end .ensures .leaves) in
+    let at : Ended u (g .O·Outlet .state (c .end .last .self)) = did-ok Ended (g .O·Outlet .state) (c .end .result) (c .put-all .last .outlet) (c .end .last .self) ok (c .end .ensures .leaves) in
     record {
       answers = ok ∙ c .in-Continue-begin .ensures tt .answers;
-      leaves = subst (λ (r : Result (Unit {0}) Refusal). Leaves (Written (c .args .preamble) xs) (g .O·Outlet .state) r (c .args .outlet .now) (c .end .last .self)) (sym ok)
+      leaves = leaves-ok (Written (c .args .preamble) xs) (g .O·Outlet .state) (c .end .result) (c .args .outlet .now) (c .end .last .self) ok
           (whole-message (c .args .preamble) xs s (g .O·Outlet .state (c .begin .last .self)) u (g .O·Outlet .state (c .end .last .self)) (g .O·Outlet .sound (c .put-all .last .outlet)) begun all at);
     }

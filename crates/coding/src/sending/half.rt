@@ -1,0 +1,126 @@
+ghost use mathlib.Core.Path.{_≡_};
+ghost use mathlib.Core.List.{[]};
+ghost use Prim.Native.Nat.{_≤_, _<_, _*_, min};
+ghost use Rattle.coding.specs.Outgoing.{turn-over, over-outlet, outgoing, outgoing-sound};
+use crate::Coding;
+use crate::sending::Sending;
+use radio::outlet::Outlet;
+use radio::turn::Turn;
+use radio::write::put_all;
+use refusal::Refusal;
+
+impl<C: Coding, O: Outlet> Sending<C, O> {
+    /// The sending half of the layer of `coding` over `below`, with nothing held back.
+    pub fn new(coding: C, below: O) -> Self
+        ensures means { λ r. ⌜ outgoing (C·Coding .grouping) (O·Outlet .state) r ≡ over-outlet (C·Coding .grouping) [] (O·Outlet .state below) ⌝ }
+        ensures below { λ r. ⌜ r .below ≡ below ⌝ }
+    {
+        Sending {
+            below,
+            coding,
+            group: [0; 8],
+            held: 0,
+        }
+    }
+
+    /// Hands back the outlet below.
+    pub fn into_below(self) -> O
+    where
+        C: Drop,
+        ensures { λ r. ⌜ r ≡ self .below ⌝ }
+    {
+        let Sending {
+            below,
+            coding: _coding,
+            group: _,
+            held: _,
+        } = self;
+        below
+    }
+}
+
+/// What a half owes, of groups of these sizes, where the outlet below stands so and `held` octets are held back.
+fn turn_over(turn: Turn, plain: usize, coded: usize, held: usize) -> Turn
+    requires { ⌜ 1 ≤ plain ⌝ ∗ ⌜ plain ≤ coded ⌝ }
+    ensures { λ r. ⌜ r ≡ turn-over plain coded turn held ⌝ }
+{
+    let Turn::Owing(n) = turn else {
+        return turn;
+    };
+    let owed = n as usize;
+    if owed % coded != 0 {
+        return Turn::Stuck;
+    }
+    Turn::Owing((owed / coded * plain).saturating_sub(held) as u16)
+}
+
+/// The unit of a half, or 65,535 where it is larger, from that below.
+fn unit_over(unit: u16, plain: usize) -> u16
+    requires { ⌜ plain ≤ 8 ⌝ }
+    ensures { λ r. ⌜ r ≡ min (unit * plain) 65535 ⌝ }
+{
+    (unit as usize * plain).min(65535) as u16
+}
+
+pub impl<C: Coding, O: Outlet> Outlet for Sending<C, O> as SendingOutlet {
+    ghost state = { outgoing (C·Coding .grouping) (O·Outlet .state) };
+
+    ghost sound = { outgoing-sound (C·Coding .grouping) (O·Outlet .state) (O·Outlet .sound) };
+
+    fn begin(&mut self, preamble: u16, count: usize) -> Result<(), Refusal> {
+        self.check_form(preamble, count)?;
+        let below = count / self.coding.plain() * self.coding.coded();
+        if below > 65534 {
+            // with the preamble it passes 65,536, the most that any space is
+            return Err(Refusal::Space);
+        }
+        self.below.begin(preamble, below)?;
+        self.held = 0;
+        Ok(())
+    }
+
+    fn put(&mut self, octet: u8) -> Result<(), Refusal> {
+        match self.turn_of() {
+            Turn::Owing(n) if n > 0 => {}
+            _ => return Err(Refusal::Turn),
+        }
+        let plain = self.coding.plain();
+        let held = self.held.min(plain - 1);
+        let mut group = self.group;
+        group[held] = octet;
+        if held + 1 < plain {
+            self.group = group;
+            self.held = held + 1;
+            return Ok(());
+        }
+        let code = self.coding.encode(&group);
+        let coded = self.coding.coded();
+        self.held = 0;
+        put_all(&mut self.below, &code[0..coded])
+    }
+
+    fn end(&mut self) -> Result<(), Refusal> {
+        match self.turn_of() {
+            Turn::Owing(0) => self.below.end(),
+            _ => Err(Refusal::Turn),
+        }
+    }
+
+    fn turn_of(&self) -> Turn {
+        let plain = self.coding.plain();
+        turn_over(
+            self.below.turn_of(),
+            plain,
+            self.coding.coded(),
+            self.held.min(plain - 1),
+        )
+    }
+
+    fn space_of(&self) -> u32 {
+        self.below.space_of()
+    }
+
+    fn unit_of(&self) -> u16 {
+        unit_over(self.below.unit_of(), self.coding.plain())
+    }
+}
