@@ -1,6 +1,6 @@
 -- What a sending half means over the outlet below. Assumes nothing.
 use mathlib.Core.Bool.{cond}
-use mathlib.Core.List.{List, _∷_}
+use mathlib.Core.List.{List, [], _∷_}
 use Prim.Native.Nat.{ℕ, _-_, _*_, _/_, _%_, min}
 use lib.Dec.{eqb}
 use lib.ListN.{length, take}
@@ -11,6 +11,8 @@ use Rattle.coding.specs.declared.sending.Sending.{Sending}
 use Rattle.coding.specs.Regroup.{regroup}
 use Rattle.coding.specs.Grouping.{Grouping}
 use Rattle.coding.specs.Lift.{layer-of}
+use Rattle.coding.specs.ManchesterLaws.{manchester}
+use Rattle.coding.specs.BlockLaws.{block}
 
 -- how a half stands over an outlet that stands so, with h octets held back: it is owed the octets of the groups that are owed below, less those held;
 -- where what is owed below is no whole number of groups, it is stuck
@@ -45,3 +47,7 @@ over-outlet-sound c held b s = record { none-put = s .none-put; spaced = s .spac
 
 pub outgoing-sound : {C O : Type 0} (c : Grouping) (under : O → State) → ((o : O) → Sound (under o)) → (s : Sending C O) → Sound (outgoing c under s)
 outgoing-sound c under sound s = over-outlet-sound c (held-back c (s .held) (s .group)) (under (s .below)) (sound (s .below))
+
+-- an outlet once the sending halves of the standard pile, Block over Manchester, stand over it
+abbrev pub standard-over : State → State
+standard-over b = over-outlet block [] (over-outlet manchester [] b)

@@ -11,6 +11,7 @@ pub mod manchester;
 pub mod reading;
 pub mod sending;
 pub mod standard;
+pub mod standard_sending;
 
 /// A coding of octets, group by group.
 pub trait Coding {

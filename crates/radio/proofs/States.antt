@@ -20,7 +20,7 @@ use Rattle.refusal.specs.declared.Refusal.the-variants.{Argument, Turn as Out-o
 use Rattle.radio.specs.declared.turn.Turn.{Turn}
 use Rattle.radio.specs.declared.turn.Turn.the-variants.{Idle, Owing, Stuck}
 use Rattle.radio.specs.Layer.{Pile, unit-of, cost-of, sent-through}
-use Rattle.radio.specs.Outlets.{State, Sound, Goes-on, Begun, Put, Ended, Written, unit, laid-over, answer, Leaves, unless, idle, a-preamble, even, out-of-form, begin-refusal, put-refusal, end-refusal, needed, start, stop, less}
+use Rattle.radio.specs.Outlets.{State, Sound, Goes-on, Begun, Put, Ended, Written, Stored, message, unit, laid-over, answer, Leaves, unless, idle, a-preamble, even, out-of-form, begin-refusal, put-refusal, end-refusal, needed, start, stop, less}
 
 pub unit-positive : (ls : Pile) (u : ℕ) → 1 ≤ u → 1 ≤ unit-of ls u
 unit-positive [] u h = h
@@ -157,3 +157,24 @@ whole-message p xs s t u v ok b q e = record {
       ∙ append-assoc (s .channel) (start p) (sent-through (s .pile) xs ++ stop);
   goes-on = goes-further s t v (b .goes-on) (goes-further t u v (q .goes-on) (e .goes-on));
 }
+
+answer-ok : (o : Option Refusal) → Ok tt ≡ answer o → o ≡ None
+answer-ok None e = refl
+answer-ok (Some r) e = let z : _≡_ {A = ℕ} 0 1 = cc in absurd (omega arith)
+
+answer-err : (o : Option Refusal) (r : Refusal) → Err r ≡ answer o → o ≡ Some r
+answer-err None r e = let z : _≡_ {A = ℕ} 0 1 = cc in absurd (omega arith)
+answer-err (Some q) r e = cc
+
+-- one message in a memory that held none
+module _ {A : Type 0} (state : A → State) (a b : A) (s : State) (p : ℕ) (xs : List ℕ) (is : state a ≡ s) (none : s .channel ≡ []) where
+  pub stored-ok : (n : ℕ) → n ≡ state b .space → Ok tt ≡ answer (begin-refusal p (length xs) (state a)) → Written p xs (state a) (state b) → Stored p xs s (Ok n) (state b .memory)
+  stored-ok n e h w =
+      let w′ : Written p xs s (state b) = subst (λ (t : State). Written p xs t (state b)) is w in
+      ( answer-ok (begin-refusal p (length xs) s) (h ∙ ap (λ t. answer (begin-refusal p (length xs) t)) is)
+      , e ∙ w′ .space
+      , w′ .goes-on .memory ∙ ap (λ c. laid-over (s .cells) c (s .memory)) (w′ .channel ∙ ap (λ c. c ++ message (s .pile) p xs) none)
+      )
+
+  pub stored-err : (r : Refusal) → Err r ≡ answer (begin-refusal p (length xs) (state a)) → b ≡ a → Stored p xs s (Err r) (state b .memory)
+  stored-err r h e = (answer-err (begin-refusal p (length xs) s) r (h ∙ ap (λ t. answer (begin-refusal p (length xs) t)) is), ap (λ x. state x .memory) e ∙ ap (λ t. t .memory) is)

@@ -139,9 +139,18 @@ pub record Ended (s t : State) : Type 0 where
   pub channel : t .channel ≡ s .channel ++ stop
   pub goes-on : Goes-on s t
 
--- one whole message: the channel gains its start, what the pile makes of its octets, and its end
+-- the channel octets of one whole message: its start, what the pile makes of its octets, and its end
+abbrev pub message : Pile → ℕ → List ℕ → List ℕ
+message pile p xs = start p ++ (sent-through pile xs ++ stop)
+
+-- one whole message written
 pub record Written (p : ℕ) (xs : List ℕ) (s t : State) : Type 0 where
   pub turn : t .turn ≡ Idle
   pub space : t .space ≡ s .space - needed p (length xs) s
-  pub channel : t .channel ≡ s .channel ++ (start p ++ (sent-through (s .pile) xs ++ stop))
+  pub channel : t .channel ≡ s .channel ++ message (s .pile) p xs
   pub goes-on : Goes-on s t
+
+-- one whole message written into the memory of an outlet that had written nothing: the answer is the space left or the refusal, and these are the cells afterwards
+abbrev pub Stored : ℕ → List ℕ → State → Result ℕ Refusal → List ℕ → Type 0
+Stored p xs s (Ok n) after = (begin-refusal p (length xs) s ≡ None) × (n ≡ s .space - needed p (length xs) s) × (after ≡ laid-over (s .cells) (message (s .pile) p xs) (s .memory))
+Stored p xs s (Err e) after = (begin-refusal p (length xs) s ≡ Some e) × (after ≡ s .memory)

@@ -1,7 +1,7 @@
 use mathlib.Core.Path.{_≡_, refl, sym, ap, _∙_}
 use Prim.Native.Nat.{_*_, min}
 use Rattle.radio.specs.Outlets.{unit}
-use Rattle.coding.proofs.Halves.{unit-over}
+use Rattle.coding.proofs.Outgoing.{unit-times}
 use Rattle.coding.proofs.sending.half.SendingOutlet.unit_of.Needs as need
 
 pub returns : need.returns
@@ -11,4 +11,4 @@ returns g c =
     c .unit-over .ensures
     ∙ ap (λ p. min (c .unit-of .result * p) 65535) (c .plain .ensures)
     ∙ ap (λ v. min (v * k .plain) 65535) (c .unit-of .ensures)
-    ∙ unit-over (k .plain) u (k .some)
+    ∙ unit-times (k .plain) u (k .some)
