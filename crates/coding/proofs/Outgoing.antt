@@ -21,13 +21,14 @@ use Rattle.refusal.specs.declared.Refusal.the-variants.{Argument, Turn as Out-o
 use Rattle.radio.specs.declared.turn.Turn.{Turn}
 use Rattle.radio.specs.declared.turn.Turn.the-variants.{Idle, Owing, Stuck}
 use Rattle.radio.specs.Layer.{Pile, cost-of, sent-through}
+use Rattle.radio.specs.Lines.{tail}
 use Rattle.radio.specs.Outlets.{State, Sound, Goes-on, Begun, Put, Ended, unit, answer, unless, idle, a-preamble, even, out-of-form, begin-refusal, put-refusal, end-refusal, needed, less}
 use Rattle.radio.proofs.States.{form-ok, no-space, put-accepted, goes-nowhere}
 use Rattle.coding.specs.declared.sending.Sending.{Sending}
 use Rattle.coding.specs.Regroup.{regroup}
 use Rattle.coding.specs.Grouping.{Grouping, groups-in, counted}
 use Rattle.coding.specs.Lift.{layer-of}
-use Rattle.coding.specs.Outgoing.{turn-over, over-outlet, held-back}
+use Rattle.coding.specs.Outgoing.{turn-over, over-outlet, held-back, Sends-coding}
 
 pub owed-le : (n c p : ℕ) → p ≤ c → n / c * p ≤ n
 owed-le n c p h =
@@ -272,3 +273,14 @@ pub same-but-below : {C O : Type 0} (y y′ : O) (k : C) (group : List ℕ) (hel
 same-but-below {C} {O} y y′ k group held l l′ e =
     let F : O → length group ≡ 8 → Sending C O = λ z m. record { below = z; coding = k; group = group; held = held; long = m } in
     ap (λ z. F z l) e ∙ ap (F y′) (ℕ-set (length group) 8 l l′)
+
+-- a message through a half is its coding below
+pub sends-coding : Sends-coding
+sends-coding c held held′ b b′ p xs one fit w =
+    let k = layer-of c .laws .fixed (unit b) xs one fit .0 in
+    record {
+      turn = idle-below c (b′ .turn) (length held′) (ap idle (w .turn));
+      space = w .space ∙ ap (λ m. b .space - (p + 2 + cost-of (b .pile) m)) (sym k);
+      channel = w .channel;
+      goes-on = record { pile = ap tail (w .goes-on .pile); ground = w .goes-on .ground; cells = w .goes-on .cells; grows = w .goes-on .grows; memory = w .goes-on .memory };
+    }

@@ -1,12 +1,13 @@
 -- What a sending half means over the outlet below. Assumes nothing.
 use mathlib.Core.Bool.{cond}
 use mathlib.Core.List.{List, [], _∷_}
-use Prim.Native.Nat.{ℕ, _-_, _*_, _/_, _%_, min}
+use Prim.Native.Nat.{ℕ, _-_, _*_, _/_, _%_, _≤_, min}
 use lib.Dec.{eqb}
 use lib.ListN.{length, take}
 use Rattle.radio.specs.declared.turn.Turn.{Turn}
 use Rattle.radio.specs.declared.turn.Turn.the-variants.{Idle, Owing, Stuck}
-use Rattle.radio.specs.Outlets.{State, Sound}
+use Rattle.radio.specs.Layer.{Fit}
+use Rattle.radio.specs.Outlets.{State, Sound, Written, unit}
 use Rattle.coding.specs.declared.sending.Sending.{Sending}
 use Rattle.coding.specs.Regroup.{regroup}
 use Rattle.coding.specs.Grouping.{Grouping}
@@ -51,3 +52,8 @@ outgoing-sound c under sound s = over-outlet-sound c (held-back c (s .held) (s .
 -- an outlet once the sending halves of the standard pile, Block over Manchester, stand over it
 abbrev pub standard-over : State → State
 standard-over b = over-outlet block [] (over-outlet manchester [] b)
+
+-- the sending side of a layer: whenever a whole message has gone through a half, the outlet below is as if the layer's coding of it had been written there
+abbrev pub Sends-coding : Type 0
+Sends-coding = (c : Grouping) (held held′ : List ℕ) (b b′ : State) (p : ℕ) (xs : List ℕ) → 1 ≤ unit b → Fit (layer-of c .unit) (unit b) xs
+    → Written p xs (over-outlet c held b) (over-outlet c held′ b′) → Written p (layer-of c .encode xs) b b′

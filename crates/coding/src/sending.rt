@@ -6,6 +6,7 @@ use radio::outlet::Outlet;
 mod half;
 
 pub use half::SendingOutlet;
+pub use half::sending_holds;
 
 /// The sending half of a layer over an outlet, itself an outlet. It holds back the octets of an unfinished group,
 /// and writes a group below when it is full.

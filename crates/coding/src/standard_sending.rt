@@ -1,6 +1,7 @@
 ghost use mathlib.Core.Path.{_≡_};
 ghost use Prim.Native.Nat.{min, _*_, _/_};
 ghost use Rattle.std.specs.Of.Vec.{vec-items, vec-len};
+ghost use Rattle.radio.specs.Layer.{Octets};
 ghost use Rattle.radio.specs.Outlets.{Stored};
 ghost use Rattle.radio.specs.Bottoms.{fresh, one-cell};
 ghost use Rattle.radio.specs.Frames.{bits-of, frame};
@@ -47,7 +48,8 @@ pub fn write_octets(memory: Vec<u8>, preamble: u16, octets: &[u8]) -> (Result<u3
 
 /// Writes one message through the standard pile into a memory, in frames of ten bits: answers the space left and hands the memory back.
 pub fn write_bits(memory: Vec<u8>, preamble: u16, octets: &[u8]) -> (Result<u32, Refusal>, Vec<u8>)
-    ensures { λ r. ⌜ Stored preamble (now (octets .entry)) (standard-over (fresh frame (bits-of (vec-items memory)) (min (8 * vec-len memory / 10) 65536))) (r .0) (bits-of (vec-items (r .1))) ⌝ }
+    ensures stored { λ r. ⌜ Stored preamble (now (octets .entry)) (standard-over (fresh frame (bits-of (vec-items memory)) (min (8 * vec-len memory / 10) 65536))) (r .0) (bits-of (vec-items (r .1))) ⌝ }
+    ensures octets { λ r. ⌜ Octets (vec-items (r .1)) ⌝ }
 {
     let mut outlet = standard_sending(BitOutlet::new(memory));
     let answer = write_message(&mut outlet, preamble, octets);

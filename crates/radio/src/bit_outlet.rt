@@ -4,6 +4,7 @@ ghost use Prim.Native.Nat.{ℕ, _+_, _*_, _/_, _<_, _≤_, min};
 ghost use lib.ListN.{take, drop};
 ghost use Rattle.std.specs.Joined.{joined};
 ghost use Rattle.std.specs.Of.Vec.{vec-items, vec-len};
+ghost use Rattle.radio.specs.Layer.{Octets};
 ghost use Rattle.radio.specs.Outlets.{start};
 ghost use Rattle.radio.specs.Bottoms.{fresh, reserved, written-at};
 ghost use Rattle.radio.specs.Frames.{bits, bits-of, frame, Framed, Bits-pin-octets, over-bits, bits-sound};
@@ -41,7 +42,8 @@ impl BitOutlet {
 
     /// Hands the memory back.
     pub fn into_memory(self) -> Vec<u8>
-        ensures { λ r. ⌜ r ≡ self .memory ⌝ }
+        ensures same { λ r. ⌜ r ≡ self .memory ⌝ }
+        ensures octets { λ r. ⌜ Octets (vec-items r) ⌝ }
     {
         let BitOutlet {
             memory,
@@ -49,8 +51,17 @@ impl BitOutlet {
             turn: _,
             room: _,
         } = self;
+        are_octets(&memory);
         memory
     }
+}
+
+/// That bytes are octets.
+fn are_octets(bytes: &[u8])
+    ensures { λ _. ⌜ Octets (now (bytes .entry)) ⌝ }
+{
+    // any call with the bytes says that each of them fits a u8
+    let _ = bytes.is_empty();
 }
 
 /// Sixteen bits with a frame written over ten of them, from one of the first seven on.

@@ -1,7 +1,7 @@
 ghost use mathlib.Core.Path.{_≡_};
 ghost use mathlib.Core.List.{[]};
 ghost use Prim.Native.Nat.{_≤_, _<_, _*_, min};
-ghost use Rattle.coding.specs.Outgoing.{turn-over, over-outlet, outgoing, outgoing-sound};
+ghost use Rattle.coding.specs.Outgoing.{turn-over, over-outlet, outgoing, outgoing-sound, Sends-coding};
 use crate::Coding;
 use crate::sending::Sending;
 use radio::outlet::Outlet;
@@ -123,4 +123,11 @@ pub impl<C: Coding, O: Outlet> Outlet for Sending<C, O> as SendingOutlet {
     fn unit_of(&self) -> u16 {
         unit_over(self.below.unit_of(), self.coding.plain())
     }
+}
+
+/// That what goes through a half is written below in its coding.
+pub fn sending_holds() -> u8
+    ensures { λ _. ⌜ Sends-coding ⌝ }
+{
+    0
 }
