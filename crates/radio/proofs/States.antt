@@ -170,10 +170,10 @@ answer-err (Some q) r e = cc
 module _ {A : Type 0} (state : A → State) (a b : A) (s : State) (p : ℕ) (xs : List ℕ) (is : state a ≡ s) (none : s .channel ≡ []) where
   pub stored-ok : (n : ℕ) → n ≡ state b .space → Ok tt ≡ answer (begin-refusal p (length xs) (state a)) → Written p xs (state a) (state b) → Stored p xs s (Ok n) (state b .memory)
   stored-ok n e h w =
-      let w′ : Written p xs s (state b) = subst (λ (t : State). Written p xs t (state b)) is w in
-      ( answer-ok (begin-refusal p (length xs) s) (h ∙ ap (λ t. answer (begin-refusal p (length xs) t)) is)
-      , e ∙ w′ .space
-      , w′ .goes-on .memory ∙ ap (λ c. laid-over (s .cells) c (s .memory)) (w′ .channel ∙ ap (λ c. c ++ message (s .pile) p xs) none)
+      let w′ : Written p xs s (state b) = subst (λ (t : State). Written p xs t (state b)) is w in (
+        answer-ok (begin-refusal p (length xs) s) (h ∙ ap (λ t. answer (begin-refusal p (length xs) t)) is),
+        e ∙ w′ .space,
+        w′ .goes-on .memory ∙ ap (λ c. laid-over (s .cells) c (s .memory)) (w′ .channel ∙ ap (λ c. c ++ message (s .pile) p xs) none),
       )
 
   pub stored-err : (r : Refusal) → Err r ≡ answer (begin-refusal p (length xs) (state a)) → b ≡ a → Stored p xs s (Err r) (state b .memory)

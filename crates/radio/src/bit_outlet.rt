@@ -1,7 +1,7 @@
 ghost use mathlib.Core.Path.{_≡_};
 ghost use mathlib.Core.List.{_++_};
-ghost use Prim.Native.Nat.{ℕ, _+_, _*_, _/_, _<_, _≤_, min};
-ghost use lib.ListN.{take, drop};
+ghost use Prim.Native.Nat.{ℕ, _+_, _*_, _/_, _%_, _<_, _≤_, min};
+ghost use lib.ListN.{take, drop, set};
 ghost use Rattle.std.specs.Joined.{joined};
 ghost use Rattle.std.specs.Of.Vec.{vec-items, vec-len};
 ghost use Rattle.radio.specs.Layer.{Octets};
@@ -64,14 +64,30 @@ fn are_octets(bytes: &[u8])
     let _ = bytes.is_empty();
 }
 
+/// A word with ten of its bits replaced, from the one of weight `scale` on.
+fn spliced(word: u64, scale: u64, ten: u64) -> u64
+    requires { ⌜ word < 65536 ⌝ ∗ ⌜ 0 < scale ⌝ ∗ ⌜ scale ≤ 64 ⌝ ∗ ⌜ ten < 1024 ⌝ }
+    ensures { λ r. ⌜ r ≡ word % scale + scale * (ten + 1024 * (word / scale / 1024)) ⌝ }
+{
+    word % scale + scale * (ten + 1024 * (word / scale / 1024))
+}
+
 /// Sixteen bits with a frame written over ten of them, from one of the first seven on.
 fn framed_over(word: u64, shift: usize, octet: u8) -> u64
     requires { ⌜ word < 65536 ⌝ ∗ ⌜ shift ≤ 6 ⌝ }
     ensures { λ r. ⌜ bits 16 r ≡ take shift (bits 16 word) ++ (frame octet ++ drop (shift + 10) (bits 16 word)) ⌝ }
 {
-    let scale = 1 << shift;
-    let framed = 1 + 2 * octet as u64;
-    word % scale + scale * (framed + 1024 * (word / scale / 1024))
+    spliced(word, 1 << shift, 1 + 2 * octet as u64)
+}
+
+/// Writes sixteen bits into two bytes.
+fn store(memory: &mut Vec<u8>, byte: usize, word: u64)
+    requires { ⌜ byte + 1 < vec-len (now memory) ⌝ }
+    ensures items { λ _. ⌜ vec-items (now (memory .exit)) ≡ set (set (vec-items (now (memory .entry))) byte (word % 256)) (byte + 1) (word / 256 % 256) ⌝ }
+    ensures len { λ _. ⌜ vec-len (now (memory .exit)) ≡ vec-len (now (memory .entry)) ⌝ }
+{
+    memory[byte] = (word % 256) as u8;
+    memory[byte + 1] = (word / 256 % 256) as u8;
 }
 
 /// Writes the frame of an octet at the place of the channel octet of this number: four frames are five bytes.
@@ -81,11 +97,9 @@ fn lay(memory: &mut Vec<u8>, place: usize, octet: u8)
     ensures len { λ _. ⌜ vec-len (now (memory .exit)) ≡ vec-len (now (memory .entry)) ⌝ }
 {
     let byte = place + place / 4;
-    let shift = place % 4 * 2;
     let word = memory[byte] as u64 + 256 * memory[byte + 1] as u64;
-    let laid = framed_over(word, shift, octet);
-    memory[byte] = (laid % 256) as u8;
-    memory[byte + 1] = (laid / 256 % 256) as u8;
+    let laid = framed_over(word, place % 4 * 2, octet);
+    store(memory, byte, laid);
 }
 
 /// Writes what opens a message, from a place on: the preamble and the octet behind it.
@@ -133,16 +147,14 @@ pub impl Outlet for BitOutlet as OverBits {
     }
 
     fn end(&mut self) -> Result<(), Refusal> {
-        match self.turn {
-            Turn::Owing(0) => {
-                let place = self.used;
-                lay(&mut self.memory, place, 0x33);
-                self.used = place + 1;
-                self.turn = Turn::Idle;
-                Ok(())
-            }
-            _ => Err(Refusal::Turn),
-        }
+        let Turn::Owing(0) = self.turn else {
+            return Err(Refusal::Turn);
+        };
+        let place = self.used;
+        lay(&mut self.memory, place, 0x33);
+        self.used = place + 1;
+        self.turn = Turn::Idle;
+        Ok(())
     }
 
     fn turn_of(&self) -> Turn {

@@ -1,5 +1,6 @@
 ghost use mathlib.Core.Path.{_≡_};
-ghost use Prim.Native.Nat.{ℕ, _+_, _≤_, min};
+ghost use Prim.Native.Nat.{ℕ, _+_, _<_, _≤_, min};
+ghost use lib.ListN.{set};
 ghost use Rattle.std.specs.Of.Vec.{vec-items, vec-len};
 ghost use Rattle.radio.specs.Outlets.{start};
 ghost use Rattle.radio.specs.Bottoms.{fresh, reserved, written-at, one-cell, over-octets, octets-sound};
@@ -46,6 +47,15 @@ impl OctetOutlet {
     }
 }
 
+/// Writes one octet at a place.
+fn write_at(memory: &mut Vec<u8>, place: usize, octet: u8)
+    requires { ⌜ place < vec-len (now memory) ⌝ }
+    ensures items { λ _. ⌜ vec-items (now (memory .exit)) ≡ set (vec-items (now (memory .entry))) place octet ⌝ }
+    ensures len { λ _. ⌜ vec-len (now (memory .exit)) ≡ vec-len (now (memory .entry)) ⌝ }
+{
+    memory[place] = octet;
+}
+
 /// Writes what opens a message, from a place on: the preamble and the octet behind it.
 fn write_start(memory: &mut Vec<u8>, place: usize, preamble: usize)
     requires { ⌜ place + preamble + 1 ≤ vec-len (now memory) ⌝ }
@@ -53,9 +63,9 @@ fn write_start(memory: &mut Vec<u8>, place: usize, preamble: usize)
     ensures len { λ _. ⌜ vec-len (now (memory .exit)) ≡ vec-len (now (memory .entry)) ⌝ }
 {
     for i in 0..preamble {
-        memory[place + i] = 0xF0;
+        write_at(memory, place + i, 0xF0);
     }
-    memory[place + preamble] = 0xCC;
+    write_at(memory, place + preamble, 0xCC);
 }
 
 pub impl Outlet for OctetOutlet as OverOctets {
@@ -81,7 +91,7 @@ pub impl Outlet for OctetOutlet as OverOctets {
         match self.turn {
             Turn::Owing(n) if n > 0 => {
                 let place = self.used;
-                self.memory[place] = octet;
+                write_at(&mut self.memory, place, octet);
                 self.used = place + 1;
                 self.turn = Turn::Owing(n - 1);
                 Ok(())
@@ -91,16 +101,14 @@ pub impl Outlet for OctetOutlet as OverOctets {
     }
 
     fn end(&mut self) -> Result<(), Refusal> {
-        match self.turn {
-            Turn::Owing(0) => {
-                let place = self.used;
-                self.memory[place] = 0x33;
-                self.used = place + 1;
-                self.turn = Turn::Idle;
-                Ok(())
-            }
-            _ => Err(Refusal::Turn),
-        }
+        let Turn::Owing(0) = self.turn else {
+            return Err(Refusal::Turn);
+        };
+        let place = self.used;
+        write_at(&mut self.memory, place, 0x33);
+        self.used = place + 1;
+        self.turn = Turn::Idle;
+        Ok(())
     }
 
     fn turn_of(&self) -> Turn {

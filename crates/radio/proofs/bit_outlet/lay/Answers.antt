@@ -22,8 +22,8 @@ returns c =
     let at : 8 * q + s ≡ 10 * p = omega arith in
     let small : x < 256 = search needs in
     record {
-      laid = two-laid ms q x y fits (getD-read ms q x (omega arith) (c .index .ensures) 0) (getD-read ms (q + 1) y fits (c .index-2 .ensures) 0)
+      laid = ap bits-of (c .store .ensures .items) ∙ two-laid ms q x y fits (getD-read ms q x (omega arith) (c .index .ensures) 0) (getD-read ms (q + 1) y fits (c .index-2 .ensures) 0)
           s (c .framed-over-laid .result) (frame (c .args .octet)) (omega arith) refl small (c .framed-over-laid .ensures)
           ∙ ap (λ k. written-at (bits-of ms) k (frame (c .args .octet))) at;
-      len = refl;
+      len = c .store .ensures .len;
     }

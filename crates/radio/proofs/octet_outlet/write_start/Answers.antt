@@ -13,8 +13,10 @@ loop-i-holds c = (written-none (c .args .memory .now .items) (c .args .place), r
 pub loop-i-again : need.loop-i-again
 loop-i-again c =
     let e = c .args .memory .now .ok .0 in
-    let h : c .args .place + c .loop-i .i < length (c .args .memory .now .items) = omega arith in
-    (more-240 (c .args .memory .now .items) (c .loop-i .memory .items) (c .args .place) (c .loop-i .i) (c .loop-i .inv .0) h, c .loop-i .inv .1)
+    let h : c .args .place + c .loop-i .i < length (c .args .memory .now .items) = omega arith in (
+      c .write-at .ensures .items ∙ more-240 (c .args .memory .now .items) (c .loop-i .memory .items) (c .args .place) (c .loop-i .i) (c .loop-i .inv .0) h,
+      c .write-at .ensures .len ∙ c .loop-i .inv .1,
+    )
 
 pub returns : need.returns
 returns c =
@@ -24,6 +26,6 @@ returns c =
     let w : c .loop-i .memory .items ≡ written-at (c .args .memory .now .items) (c .args .place) (replicate (c .args .preamble) 240) =
     c .loop-i .inv .0 ∙ ap (λ j. written-at (c .args .memory .now .items) (c .args .place) (replicate j 240)) i in
     record {
-      items = then-204 (c .args .memory .now .items) (c .loop-i .memory .items) (c .args .place) (c .args .preamble) w h;
-      len = c .loop-i .inv .1;
+      items = c .write-at-2 .ensures .items ∙ then-204 (c .args .memory .now .items) (c .loop-i .memory .items) (c .args .place) (c .args .preamble) w h;
+      len = c .write-at-2 .ensures .len ∙ c .loop-i .inv .1;
     }

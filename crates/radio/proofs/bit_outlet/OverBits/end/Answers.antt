@@ -17,8 +17,8 @@ ghost-self c =
     let fits : 10 * (s .used + 1) ≤ 8 * length (s .memory .items) = search needs in
     (s .few, (search needs, (one-framed (s .memory .items) (c .lay .last .memory .items) (s .used) 51 fits (s .framed) (lit< tt) (c .lay .ensures .laid), tt)))
 
-pub returns-in-Owing-eq0 : need.returns-in-Owing-eq0
-returns-in-Owing-eq0 c =
+pub returns : need.returns
+returns c =
     let s = c .args .self .now in
     let m = s .memory .items in
     let m′ = c .lay .last .memory .items in
