@@ -33,7 +33,11 @@ pub fn standard_sending<O: Outlet>(outlet: O) -> StandardSending<O>
 }
 
 /// Writes one message through the standard pile into a memory, an octet to a byte: answers the space left and hands the memory back.
-pub fn write_octets(memory: Vec<u8>, preamble: u16, octets: &[u8]) -> (Result<u32, Refusal>, Vec<u8>)
+pub fn write_octets(
+    memory: Vec<u8>,
+    preamble: u16,
+    octets: &[u8],
+) -> (Result<u32, Refusal>, Vec<u8>)
     ensures { λ r. ⌜ Stored preamble (now (octets .entry)) (standard-over (fresh one-cell (vec-items memory) (min (vec-len memory) 65536))) (r .0) (vec-items (r .1)) ⌝ }
 {
     let mut outlet = standard_sending(OctetOutlet::new(memory));

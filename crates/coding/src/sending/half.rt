@@ -1,6 +1,8 @@
 ghost use mathlib.Core.Path.{_≡_};
 ghost use mathlib.Core.List.{[]};
 ghost use Prim.Native.Nat.{_≤_, _<_, _*_, min};
+ghost use lib.ListN.{length, take, set};
+ghost use Rattle.radio.specs.Outlets.{answer, put-refusal, Leaves, Put};
 ghost use Rattle.coding.specs.Outgoing.{turn-over, over-outlet, outgoing, outgoing-sound, Sends-coding};
 use crate::Coding;
 use crate::sending::Sending;
@@ -62,6 +64,28 @@ fn unit_over(unit: u16, plain: usize) -> u16
     (unit as usize * plain).min(65535) as u16
 }
 
+/// A group with one more octet in it.
+fn with_octet(mut group: [u8; 8], held: usize, octet: u8) -> [u8; 8]
+    requires { ⌜ held < 8 ⌝ }
+    ensures { λ r. ⌜ r ≡ set group held octet ⌝ }
+{
+    group[held] = octet;
+    group
+}
+
+/// Puts a full group below in its code.
+fn put_group<C: Coding, O: Outlet>(
+    coding: &C,
+    below: &mut O,
+    group: &[u8; 8],
+) -> Result<(), Refusal>
+    ensures answers { λ r. ⌜ r ≡ answer (put-refusal (length (C·Coding .grouping .code (take (C·Coding .grouping .plain) (now (group .entry))))) (O·Outlet .state (now (below .entry)) .turn)) ⌝ }
+    ensures leaves { λ r. ⌜ Leaves (Put (C·Coding .grouping .code (take (C·Coding .grouping .plain) (now (group .entry))))) (O·Outlet .state) r (now (below .entry)) (now (below .exit)) ⌝ }
+{
+    let code = coding.encode(group);
+    put_all(below, &code[0..coding.coded()])
+}
+
 pub impl<C: Coding, O: Outlet> Outlet for Sending<C, O> as SendingOutlet {
     ghost state = { outgoing (C·Coding .grouping) (O·Outlet .state) };
 
@@ -86,17 +110,14 @@ pub impl<C: Coding, O: Outlet> Outlet for Sending<C, O> as SendingOutlet {
         }
         let plain = self.coding.plain();
         let held = self.held.min(plain - 1);
-        let mut group = self.group;
-        group[held] = octet;
+        let group = with_octet(self.group, held, octet);
         if held + 1 < plain {
             self.group = group;
             self.held = held + 1;
             return Ok(());
         }
-        let code = self.coding.encode(&group);
-        let coded = self.coding.coded();
         self.held = 0;
-        put_all(&mut self.below, &code[0..coded])
+        put_group(&self.coding, &mut self.below, &group)
     }
 
     fn end(&mut self) -> Result<(), Refusal> {

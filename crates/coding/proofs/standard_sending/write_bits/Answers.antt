@@ -25,8 +25,8 @@ returns-in-Ok c =
     let mem : c .into-memory-memory .result ≡ b .below .below .memory = c .into-memory-memory .ensures .same ∙ ap (λ o. o .memory) (c .into-below-2 .ensures ∙ ap (λ h. h .below) (c .into-below .ensures)) in
     record {
       stored = subst (λ (m : List ℕ). Stored (c .args .preamble) (c .args .octets .now) s (Ok (c .space-of-space .result)) (bits-of m)) (sym (ap (λ v. v .items) mem))
-        (stored-ok (outgoing block (outgoing manchester bottom-state)) a b s (c .args .preamble) (c .args .octets .now) (c .standard-sending-outlet .ensures ∙ ap standard-over (c .new .ensures)) refl
-      (c .space-of-space .result) (c .space-of-space .ensures) (c .in-Ok .ensures tt .answers) (c .in-Ok .ensures tt .leaves));
+          (stored-ok (outgoing block (outgoing manchester bottom-state)) a b s (c .args .preamble) (c .args .octets .now) (c .standard-sending-outlet .ensures ∙ ap standard-over (c .new .ensures)) refl
+          (c .space-of-space .result) (c .space-of-space .ensures) (c .in-Ok .ensures tt .answers) (c .in-Ok .ensures tt .leaves));
       octets = c .into-memory-memory .ensures .octets;
     }
 
@@ -38,7 +38,7 @@ returns-in-Err c =
     let mem : c .into-memory-memory .result ≡ b .below .below .memory = c .into-memory-memory .ensures .same ∙ ap (λ o. o .memory) (c .into-below-2 .ensures ∙ ap (λ h. h .below) (c .into-below .ensures)) in
     record {
       stored = subst (λ (m : List ℕ). Stored (c .args .preamble) (c .args .octets .now) s (Err (c .in-Err .refusal)) (bits-of m)) (sym (ap (λ v. v .items) mem))
-        (stored-err (outgoing block (outgoing manchester bottom-state)) a b s (c .args .preamble) (c .args .octets .now) (c .standard-sending-outlet .ensures ∙ ap standard-over (c .new .ensures)) refl
-      (c .in-Err .refusal) (c .in-Err .ensures tt .answers) (c .in-Err .ensures tt .leaves));
+          (stored-err (outgoing block (outgoing manchester bottom-state)) a b s (c .args .preamble) (c .args .octets .now) (c .standard-sending-outlet .ensures ∙ ap standard-over (c .new .ensures)) refl
+          (c .in-Err .refusal) (c .in-Err .ensures tt .answers) (c .in-Err .ensures tt .leaves));
       octets = c .into-memory-memory .ensures .octets;
     }

@@ -1,7 +1,7 @@
 use mathlib.Core.Path.{_≡_, refl, sym, ap, _∙_, subst}
 use mathlib.Core.List.{List, [], _∷_, _++_}
 use Prim.Native.Nat.{ℕ, _+_, _-_, _<_, _≤_, min}
-use lib.ListN.{length, take, set}
+use lib.ListN.{length, take}
 use native.Mathlib.Omega.{arith}
 use borrow.Author.Needs.{needs}
 use Rattle.std.specs.declared.result.Result.the-variants.{Ok}
@@ -26,9 +26,10 @@ returns-then-held-plain g c =
     let p = c .plain-plain .ensures in
     let short : hd + 1 < k .plain = let t = c .if-held-plain .taken in omega arith in
     let owes : turn-over (k .plain) (k .coded) (b .turn) (length held) ≡ Owing n = sym (c .in-Owing .ensures tt) in
+    let put : held-back k (hd + 1) (c .with-octet-group .result) ≡ held ++ (x ∷ []) = ap (held-back k (hd + 1)) (c .with-octet-group .ensures) ∙ held-put k (s .group) (s .long) (s .held) hd x m short in
     record {
       answers = put-accepted 1 n (turn-over (k .plain) (k .coded) (b .turn) (length held)) owes (c .if-n-gt0 .taken);
-      leaves = held-on k held b x n owes (c .if-n-gt0 .taken) (held-back k (hd + 1) (set (s .group) hd x)) (g .O·Outlet .sound (s .below)) (held-put k (s .group) (s .long) (s .held) hd x m short) (omega arith);
+      leaves = held-on k held b x n owes (c .if-n-gt0 .taken) (held-back k (hd + 1) (c .with-octet-group .result)) (g .O·Outlet .sound (s .below)) put (omega arith);
     }
 
 pub returns : need.returns
@@ -36,7 +37,7 @@ returns g c =
     let s = c .args .self .now in
     let k = g .C·Coding .grouping in
     let b = g .O·Outlet .state (s .below) in
-    let b′ = g .O·Outlet .state (c .put-all .last .outlet) in
+    let b′ = g .O·Outlet .state (c .put-group .last .below) in
     let held = held-back k (s .held) (s .group) in
     let hd = c .min-held .result in
     let x = c .args .octet in
@@ -47,12 +48,12 @@ returns g c =
     let full : hd + 1 ≡ k .plain = let t = c .if-held-plain .left in let a = k .some in omega arith in
     let whole : length held + 1 ≡ k .plain = omega arith in
     let owes : turn-over (k .plain) (k .coded) (b .turn) (length held) ≡ Owing n = sym (c .in-Owing .ensures tt) in
-    let code : take (c .coded-coded .result - 0) (c .encode-code .result) ≡ k .code (held ++ (x ∷ [])) =
-    ap (λ j. take j (c .encode-code .result)) (let i = c .coded-coded .ensures in omega arith) ∙ c .encode-code .ensures ∙ ap (k .code) (held-full k (s .group) (s .long) (s .held) hd x m full) in
-    let ok : c .put-all .result ≡ Ok tt =
-    c .put-all .ensures .answers ∙ ap (λ ys. answer (put-refusal (length ys) (b .turn))) code ∙ sym (group-accepted k held b x n owes (c .if-n-gt0 .taken) whole) in
+    let code : k .code (take (k .plain) (c .with-octet-group .result)) ≡ k .code (held ++ (x ∷ [])) =
+    ap (k .code) (ap (take (k .plain)) (c .with-octet-group .ensures) ∙ held-full k (s .group) (s .long) (s .held) hd x m full) in
+    let ok : c .put-group .result ≡ Ok tt =
+    c .put-group .ensures .answers ∙ ap (λ ys. answer (put-refusal (length ys) (b .turn))) code ∙ sym (group-accepted k held b x n owes (c .if-n-gt0 .taken) whole) in
     let put : Put (k .code (held ++ (x ∷ []))) b b′ =
-    subst (λ (ys : List ℕ). Put ys b b′) code (did-ok (Put (take (c .coded-coded .result - 0) (c .encode-code .result))) (g .O·Outlet .state) (c .put-all .result) (s .below) (c .put-all .last .outlet) ok (c .put-all .ensures .leaves)) in
+    subst (λ (ys : List ℕ). Put ys b b′) code (did-ok (Put (k .code (take (k .plain) (c .with-octet-group .result)))) (g .O·Outlet .state) (c .put-group .result) (s .below) (c .put-group .last .below) ok (c .put-group .ensures .leaves)) in
     rw ok (record {
       answers = put-accepted 1 n (turn-over (k .plain) (k .coded) (b .turn) (length held)) owes (c .if-n-gt0 .taken);
       leaves = written-on k held b x n owes (c .if-n-gt0 .taken) whole (held-back k 0 (s .group)) b′ (held-none k (s .group)) put;
