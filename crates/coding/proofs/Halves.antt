@@ -4,12 +4,12 @@ use mathlib.Core.List.{List, [], _∷_, _++_}
 use mathlib.Core.Bool.{Bool, true, false}
 use mathlib.Core.Logic.{_⊎_, inl, inr}
 use Prim.Native.Nat.{ℕ, _+_, _*_, _<_, _≤_, min}
-use native.Mathlib.Nat.{mul-comm, mul-le-mul-left, mul-one}
+use native.Mathlib.Nat.{mul-comm, mul-le-mul-left}
 use native.Mathlib.Omega.{arith}
 use lib.Dec.{leb}
 use borrow.Author.Tests.{leb-true, leb-false}
 use lib.ListN.{length, getD, take, drop}
-use Rattle.std.proofs.shelf.Lists.{length-append, length-take-le, drop-more, drop-all, getD-take}
+use Rattle.std.proofs.shelf.Lists.{length-append, length-take, length-take-le, drop-more, drop-all, getD-take}
 use Rattle.std.specs.declared.option.Option.{Option}
 use Rattle.std.specs.declared.option.Option.the-variants.{Some, None}
 use Rattle.std.specs.declared.result.Result.{Result}
@@ -23,6 +23,8 @@ use Rattle.coding.specs.Regroup.{regroup, left-over, regroup-short, left-over-
 use Rattle.coding.specs.Grouping.{Grouping, ending-above, resumed}
 use Rattle.coding.specs.Half.{held, half, over, waiting}
 use Rattle.coding.specs.Gather.{beyond, past}
+use Rattle.coding.specs.Meaning.{meaning}
+use Rattle.coding.specs.declared.reading.Reading.{Reading}
 
 -- a take gives r, and turns p into q
 abbrev Takes : Reception → Result (Option Symbol) Fault → Reception → Type 0
@@ -123,9 +125,11 @@ module _ (c : Grouping) where
       ∙ ap (λ z. record { symbols = x ++ y; ending = z }) (same-count (n + length (x ++ y)) (m + length y) h (p .ending) (omega arith))
 
   takes-full : (n m : ℕ) (p : Reception) (group ready : List Symbol) (d : Symbol) → c .coded ≤ length (p .symbols) → take (c .coded) group ≡ take (c .coded) (p .symbols) →
-      take (c .plain) ready ≡ c .read (take (c .coded) group) → c .plain ≤ length ready → m ≡ min (n + c .plain) 65535 →
+      take (c .plain) ready ≡ c .read (take (c .coded) group) → m ≡ min (n + c .plain) 65535 →
       Takes (held c [] false n p) (Ok (Some (getD ready 0 d))) (held c (waiting 1 (c .plain) ready) false m (beyond (c .coded) p))
-  takes-full n m p group ready d l g v w k =
+  takes-full n m p group ready d l g v k =
+      let r : length (c .read (take (c .coded) (p .symbols))) ≡ c .plain = c .read-length (take (c .coded) (p .symbols)) (length-take-le (c .coded) (p .symbols) l) in
+      let w : c .plain ≤ length ready = omega (arith, length-take (c .plain) ready, ap length (v ∙ ap (c .read) g)) in
       same-takes (full n m p l k ∙ ap (λ z. held c z false m (beyond (c .coded) p)) (sym (v ∙ ap (c .read) g))) refl
       (takes-ready 0 (c .plain) ready d false m (beyond (c .coded) p) (c .some) w)
 
@@ -155,16 +159,13 @@ module _ (c : Grouping) (front : List Symbol) (t : Bool) (n : ℕ) (h q : Heard)
         (subst (λ (z : List Symbol). Takes (held c z false n (h .present)) (torn-at n) (held c z true n (beyond (c .coded) (h .present)))) (sym f)
         (takes-tear c n (h .present) (beyond (c .coded) (h .present)) o l w m)))
 
-    pub full-below : (m p : ℕ) (group ready : List Symbol) (d : Symbol) → c .coded ≤ length (h .present .symbols) → take (c .coded) group ≡ take (c .coded) (h .present .symbols) →
-        take (c .plain) ready ≡ c .read (take (c .coded) group) → c .plain ≤ length ready → m ≡ min (n + p) 65535 → p ≡ c .plain →
-        Taking (half c front t n h) (Ok (Some (getD ready 0 d))) (half c (waiting 1 p ready) t m q)
-    full-below m p group ready d l g v w i j =
-        let i′ : m ≡ min (n + c .plain) 65535 = omega arith in
-        lifted (Ok (Some (getD ready 0 d))) (waiting 1 p ready) t m e
-        (subst (λ (b : Bool). Takes (held c front b n (h .present)) (Ok (Some (getD ready 0 d))) (held c (waiting 1 p ready) b m (beyond (c .coded) (h .present)))) (sym k)
-        (subst (λ (z : List Symbol). Takes (held c z false n (h .present)) (Ok (Some (getD ready 0 d))) (held c (waiting 1 p ready) false m (beyond (c .coded) (h .present)))) (sym f)
-        (subst (λ (z : ℕ). Takes (held c [] false n (h .present)) (Ok (Some (getD ready 0 d))) (held c (waiting 1 z ready) false m (beyond (c .coded) (h .present)))) (sym j)
-        (takes-full c n m (h .present) group ready d l g v w i′))))
+    pub full-below : (m : ℕ) (group ready : List Symbol) (d : Symbol) → c .coded ≤ length (h .present .symbols) → take (c .coded) group ≡ take (c .coded) (h .present .symbols) →
+        take (c .plain) ready ≡ c .read (take (c .coded) group) → m ≡ min (n + c .plain) 65535 →
+        Taking (half c front t n h) (Ok (Some (getD ready 0 d))) (half c (waiting 1 (c .plain) ready) t m q)
+    full-below m group ready d l g v i = lifted (Ok (Some (getD ready 0 d))) (waiting 1 (c .plain) ready) t m e
+        (subst (λ (b : Bool). Takes (held c front b n (h .present)) (Ok (Some (getD ready 0 d))) (held c (waiting 1 (c .plain) ready) b m (beyond (c .coded) (h .present)))) (sym k)
+        (subst (λ (z : List Symbol). Takes (held c z false n (h .present)) (Ok (Some (getD ready 0 d))) (held c (waiting 1 (c .plain) ready) false m (beyond (c .coded) (h .present)))) (sym f)
+        (takes-full c n m (h .present) group ready d l g v i)))
 
 -- nothing is asked of the line below
 module _ (c : Grouping) (t : Bool) (n : ℕ) (h : Heard) where
@@ -172,11 +173,23 @@ module _ (c : Grouping) (t : Bool) (n : ℕ) (h : Heard) where
       Taking (half c (waiting at end xs) t n h) (Ok (Some (getD xs at d))) (half c (waiting (at + 1) end xs) t n h)
   ready-taken at end xs d l w = let a = takes-ready c at end xs d t n (h .present) l w in record { answers = a .0; left = ap (λ z. over c z h) (a .1) }
 
-  pub torn-again : (front : List Symbol) → front ≡ [] → t ≡ true → n < 65536 → Taking (half c front t n h) (torn-at n) (half c front t n h)
+  pub torn-again : (front : List Symbol) → front ≡ [] → t ≡ true → n < 65536 → Taking (half c front t n h) (torn-at n) (half c front true n h)
   torn-again front f k l =
-      subst (λ (b : Bool). Taking (half c front b n h) (torn-at n) (half c front b n h)) (sym k)
+      subst (λ (b : Bool). Taking (half c front b n h) (torn-at n) (half c front true n h)) (sym k)
       (subst (λ (z : List Symbol). Taking (half c z true n h) (torn-at n) (half c z true n h)) (sym f)
       (let a = takes-torn c n (h .present) l in record { answers = a .0; left = ap (λ z. over c z h) (a .1) }))
+
+-- a half means the same where its fields are the same
+pub same-meaning : {C L : Type 0} (c : Grouping) (under : L → Heard) (b : Reading C L) (at end : ℕ) (ready : List Symbol) (torn : Bool) (given : ℕ) (below : L) →
+    b .at ≡ at → b .end ≡ end → b .ready ≡ ready → b .torn ≡ torn → b .given ≡ given → b .below ≡ below →
+    meaning c under b ≡ half c (waiting at end ready) torn given (under below)
+same-meaning c under b at end ready torn given below e₁ e₂ e₃ e₄ e₅ e₆ =
+    ap (λ z. half c (waiting z (b .end) (b .ready)) (b .torn) (b .given) (under (b .below))) e₁
+    ∙ ap (λ z. half c (waiting at z (b .ready)) (b .torn) (b .given) (under (b .below))) e₂
+    ∙ ap (λ z. half c (waiting at end z) (b .torn) (b .given) (under (b .below))) e₃
+    ∙ ap (λ z. half c (waiting at end ready) z (b .given) (under (b .below))) e₄
+    ∙ ap (λ z. half c (waiting at end ready) torn z (under (b .below))) e₅
+    ∙ ap (λ z. half c (waiting at end ready) torn given (under z)) e₆
 
 pub none-waiting : (at end : ℕ) (xs : List Symbol) → end ≤ at → end ≤ length xs → waiting at end xs ≡ []
 none-waiting at end xs l w =
@@ -184,18 +197,16 @@ none-waiting at end xs l w =
     drop-all at (take end xs) (omega arith)
 
 -- the unit over a unit that may pass 65,535
-unit-by : (p u : ℕ) → 1 ≤ p → (u ≤ 65535) ⊎ (65535 < u) → min (min u 65535 * p) 65535 ≡ min (p * u) 65535
-unit-by p u l (inl a) =
-    let m : min u 65535 ≡ u = omega arith in
-    ap (λ k. min (k * p) 65535) m ∙ ap (λ k. min k 65535) (mul-comm u p)
+unit-by : (p u : ℕ) → 1 ≤ p → (u ≤ 65535) ⊎ (65535 < u) → min (p * min u 65535) 65535 ≡ min (p * u) 65535
+unit-by p u l (inl a) = let m : min u 65535 ≡ u = omega arith in ap (λ k. min (p * k) 65535) m
 unit-by p u l (inr a) =
     let m : min u 65535 ≡ 65535 = omega arith in
     let x : u * 1 ≤ u * p = mul-le-mul-left u l in
     let y : u * p ≡ p * u = mul-comm u p in
-    ap (λ k. min (k * p) 65535) m ∙ omega arith
+    ap (λ k. min (p * k) 65535) m ∙ omega arith
 
-pub unit-over : (p u : ℕ) → 1 ≤ p → min (min u 65535 * p) 65535 ≡ min (p * u) 65535
-unit-over p u l = unit-by p u l (split (leb u 65535) refl)
+pub unit-above : (p u : ℕ) → 1 ≤ p → min (p * min u 65535) 65535 ≡ min (p * u) 65535
+unit-above p u l = unit-by p u l (split (leb u 65535) refl)
   where
     split : (b : Bool) → leb u 65535 ≡ b → (u ≤ 65535) ⊎ (65535 < u)
     split true e = inl (leb-true u 65535 e)

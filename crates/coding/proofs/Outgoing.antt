@@ -7,7 +7,7 @@ use Prim.Native.Nat.{ℕ, zero, suc, _+_, _-_, _*_, _/_, _%_, _<_, _≤_, min}
 use native.Mathlib.Nat.{ℕ-set, div-mul-le-self, mul-le-mul-left, mul-assoc, mul-comm, mul-suc, add-mul, one-mul, div-add-mod, div-add-mod', mul-div-right, mul-div-cancel, mul-mod-left, mul-mod-right, mul-add-div, div-eq-of-lt}
 use native.Mathlib.Numerals.{add-one}
 use native.Mathlib.Omega.{arith}
-use borrow.Author.Tests.{eqb-true, eq-eqb, ne-eqb, leb-true, leb-false, le-leb}
+use borrow.Author.Tests.{eqb-true, eq-eqb, ne-eqb, leb-true, le-leb}
 use lib.Dec.{leb, eqb}
 use lib.ListN.{length, take, set}
 use Rattle.std.proofs.shelf.Lists.{length-append, length-take-le, length-push, length-set, take-more-set, append-nil}
@@ -35,19 +35,6 @@ owed-le n c p h =
     let a : n / c * p ≤ n / c * c = mul-le-mul-left (n / c) h in
     let b = div-mul-le-self n c in
     omega arith
-
--- the unit over a unit that may pass 65,535
-pub unit-times : (p u : ℕ) → 1 ≤ p → min (min u 65535 * p) 65535 ≡ min (p * u) 65535
-unit-times p u h = go (leb u 65535) refl where
-  go : (t : Bool) → leb u 65535 ≡ t → min (min u 65535 * p) 65535 ≡ min (p * u) 65535
-  go true e = let l : u ≤ 65535 = leb-true u 65535 e in let m : min u 65535 ≡ u = omega arith in ap (λ q. min (q * p) 65535) m ∙ ap (λ q. min q 65535) (mul-comm u p)
-  go false e =
-      let l : 65535 < u = leb-false u 65535 e in
-      let m : min u 65535 ≡ 65535 = omega arith in
-      let a : min u 65535 * 1 ≤ min u 65535 * p = mul-le-mul-left (min u 65535) h in
-      let b : u * 1 ≤ u * p = mul-le-mul-left u h in
-      let x = mul-comm u p in
-      omega arith
 
 times-suc : (j q : ℕ) → suc j * q ≡ j * q + q
 times-suc j q = ap (λ i. i * q) (sym (add-one j)) ∙ add-mul j 1 q ∙ ap (λ r. j * q + r) (one-mul q)

@@ -94,23 +94,6 @@ read-long (a ∷ b ∷ []) e = absurd (omega arith)
 read-long (a ∷ b ∷ c ∷ []) e = absurd (omega arith)
 read-long (a ∷ b ∷ c ∷ d ∷ ss) e = four-long a b c d
 
-marks-long : (a b c d : Bool) → length (marks-of a b c d) ≡ 3
-marks-long true false false false = refl
-marks-long false true false false = refl
-marks-long false false true false = refl
-marks-long false false false false = refl
-marks-long true true c false = refl
-marks-long true false true false = refl
-marks-long false true true false = refl
-marks-long a b c true = refl
-
-pub rule-long : (ms : List Bool) → length ms ≡ 4 → length (rule-for ms) ≡ 3
-rule-long [] e = absurd (omega arith)
-rule-long (a ∷ []) e = absurd (omega arith)
-rule-long (a ∷ b ∷ []) e = absurd (omega arith)
-rule-long (a ∷ b ∷ c ∷ []) e = absurd (omega arith)
-rule-long (a ∷ b ∷ c ∷ d ∷ ms) e = marks-long a b c d
-
 pub sum-octet : (a b c : ℕ) → sum-of a b c < 256
 sum-octet a b c = omega arith
 
@@ -130,7 +113,6 @@ block = record {
   few = lit≤ tt;
   code-length = three-of (λ g. length (code-of g) ≡ 4) (λ x y z. refl);
   read-length = read-long;
-  rule-length = rule-long;
   written = three-of (λ g. Octets g → Octets (code-of g) × All any-octet (code-of g)) (λ x y z o.
       ((o .0, (o .1 .0, (o .1 .1 .0, (sum-octet x y z, tt)))), (refl, (refl, (refl, (refl, tt))))));
   returns = three-of (λ g. Octets g → read-of (map Clean (code-of g)) ≡ map Clean g) (λ x y z o. clean-returns x y z);

@@ -11,7 +11,7 @@ use Rattle.radio.specs.Reception.{Reception, Ending, whole, fault, made-at, rai
 use Rattle.radio.specs.Layer.{Octets, All}
 use Rattle.coding.specs.Regroup.{regroup, left-over}
 
--- what an author says of a coding, and shows of one group; an octet group has `plain` octets, its code `coded`
+-- what an author says of a coding, and shows of one group: `plain` octets above are `coded` octets below
 pub record Grouping : Type 0 where
   pub plain : ℕ
   pub coded : ℕ
@@ -26,7 +26,6 @@ pub record Grouping : Type 0 where
   pub few : coded ≤ 8
   pub code-length : (g : List ℕ) → length g ≡ plain → length (code g) ≡ coded
   pub read-length : (ss : List Symbol) → length ss ≡ coded → length (read ss) ≡ plain
-  pub rule-length : (ms : List Bool) → length ms ≡ coded → length (rule ms) ≡ plain
   pub written : (g : List ℕ) → length g ≡ plain → Octets g → Octets (code g) × All may (code g)
   -- with no symbol spoiled and all as written, the octets come back as written
   pub returns : (g : List ℕ) → length g ≡ plain → Octets g → read (map Clean (code g)) ≡ map Clean g

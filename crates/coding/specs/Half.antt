@@ -1,6 +1,6 @@
 -- What a reading half means over the line below. Assumes nothing.
-use mathlib.Core.Path.{_≡_, ap, _∙_}
-use mathlib.Core.List.{List, [], _∷_, _++_, map, map-map}
+use mathlib.Core.Path.{ap, _∙_}
+use mathlib.Core.List.{List, _∷_, _++_, map, map-map}
 use mathlib.Core.Bool.{Bool, true, false}
 use Prim.Native.Nat.{ℕ}
 use lib.ListN.{take, drop}

@@ -1,16 +1,16 @@
 -- The layer of a grouping: its three laws follow from what its author shows of one group. Assumes nothing.
 use mathlib.Core.Path.{_≡_, refl, sym, ap, subst, _∙_}
 use mathlib.Core.List.{List, [], _∷_, _++_, map}
-use mathlib.Core.Bool.{Bool, true, false}
-use Prim.Native.Nat.{ℕ, zero, suc, _+_, _-_, _*_, _/_, _%_, _<_, _≤_}
-use native.Mathlib.Nat.{mul-comm, mul-assoc, mul-zero, mul-suc, mul-le-mul, mul-le-mul-right, mul-add-div, div-add-mod, mod-lt, div-eq-of-lt, mul-left-comm}
+use mathlib.Core.Bool.{Bool}
+use Prim.Native.Nat.{ℕ, zero, suc, _+_, _-_, _*_, _≤_}
+use native.Mathlib.Nat.{mul-assoc, mul-zero, mul-suc, mul-le-mul, mul-le-mul-right, mul-add-div, div-add-mod, mod-lt, div-eq-of-lt, mul-left-comm}
 use native.Mathlib.Omega.{arith}
 use lib.ListN.{length, take, drop}
-use Rattle.std.proofs.shelf.Lists.{append-nil, append-assoc, map-append, length-append, length-map, length-take-le, length-drop, take-append-drop, nil-from-length}
+use Rattle.std.proofs.shelf.Lists.{map-append, length-append, length-map, length-take-le, length-drop, take-append-drop, nil-from-length}
 use Rattle.radio.specs.declared.symbol.Symbol.{Symbol}
-use Rattle.radio.specs.declared.symbol.Symbol.the-variants.{Clean, Spoiled}
-use Rattle.radio.specs.Reception.{Reception, Ending, whole, fault, mark, marks, any-octet, As-written, All-as-written, Honest, clean}
-use Rattle.radio.specs.Layer.{Layer, Laws, Fit, Multiple, Octets, All}
+use Rattle.radio.specs.declared.symbol.Symbol.the-variants.{Clean}
+use Rattle.radio.specs.Reception.{whole, mark, any-octet, All-as-written, clean}
+use Rattle.radio.specs.Layer.{Layer, Laws, Fit, Octets, All}
 use Rattle.coding.specs.Regroup.{regroup, left-over, flat, Each, regroup-full, left-over-full}
 use Rattle.coding.specs.Grouping.{Grouping, decoded, ending-above, encoded, ruled, groups-in, counted}
 
@@ -32,14 +32,6 @@ groups n (suc m) xs e =
       each = (l, r .each);
       count = ap suc (r .count);
     }
-
--- whole groups leave nothing over
-pub none-left-over : (n m : ℕ) (xs : List ℕ) → 1 ≤ n → length xs ≡ n * m → left-over n [] xs ≡ []
-none-left-over n m xs l e = let q = groups n m xs e in ap (left-over n []) (q .is) ∙ over-groups (q .gs) (q .each)
-  where
-    over-groups : (gs : List (List ℕ)) → Each n gs → left-over n [] (flat gs) ≡ []
-    over-groups [] e = refl
-    over-groups (g ∷ gs) e = let k : 0 + length g ≡ n = omega (arith, e .0) in left-over-full n [] g (flat gs) k (omega (arith, e .0)) ∙ over-groups gs (e .1)
 
 octets-left : (xs ys : List ℕ) → Octets (xs ++ ys) → Octets xs
 octets-left [] ys o = tt

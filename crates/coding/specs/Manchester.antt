@@ -47,8 +47,8 @@ read-of (s ∷ []) = []
 read-of (s ∷ t ∷ ss) = pair-of s t ∷ []
 
 -- only the code octets may be written below
-abbrev pub may-be : ℕ → Bool
-may-be c = isSome (value-of c)
+abbrev pub is-code : ℕ → Bool
+is-code c = isSome (value-of c)
 
 -- the rule of marks: an octet is spoiled if one of its two symbols counts as spoiled
 abbrev pub rule-for : List Bool → List Bool

@@ -17,7 +17,7 @@ use Rattle.radio.specs.declared.symbol.Symbol.the-variants.{Clean, Spoiled}
 use Rattle.radio.specs.Reception.{mark, any-octet, As-written, All-as-written}
 use Rattle.radio.specs.Layer.{Octets, All}
 use Rattle.coding.specs.Grouping.{Grouping}
-use Rattle.coding.specs.Manchester.{codes, value-of, nibble-of, both, pair-of, code-of, read-of, may-be, rule-for}
+use Rattle.coding.specs.Manchester.{codes, value-of, nibble-of, both, pair-of, code-of, read-of, is-code, rule-for}
 
 -- a test at each number below n
 every : ℕ → (ℕ → Bool) → Bool
@@ -94,7 +94,7 @@ valued-by : (v w : ℕ) (o : Option ℕ) → value-of v ≡ o → (isSome o ≡ 
 valued-by v w None e a = inl e
 valued-by v w (Some k) e a = inr (ap value-of (a refl))
 
-valued : (s : Symbol) (w : ℕ) → As-written may-be s w → (nibble-of s ≡ None) ⊎ (nibble-of s ≡ value-of w)
+valued : (s : Symbol) (w : ℕ) → As-written is-code s w → (nibble-of s ≡ None) ⊎ (nibble-of s ≡ value-of w)
 valued Spoiled w a = inl refl
 valued (Clean v) w a = valued-by v w (value-of v) refl a
 
@@ -108,7 +108,7 @@ honest-by o p x l (inr e) (inl f) = subst (λ (z : Symbol). As-written any-octet
 honest-by o p x l (inr e) (inr f) =
     subst (λ (z : Symbol). As-written any-octet z x) (sym (ap (λ z. both z p) e ∙ ap (both (value-of (getD codes (x / 16) 0))) f ∙ both-some x l)) (λ _. refl)
 
-honest-pair : (s t : Symbol) (x : ℕ) → x < 256 → As-written may-be s (getD codes (x / 16) 0) → As-written may-be t (getD codes (x % 16) 0) → As-written any-octet (pair-of s t) x
+honest-pair : (s t : Symbol) (x : ℕ) → x < 256 → As-written is-code s (getD codes (x / 16) 0) → As-written is-code t (getD codes (x % 16) 0) → As-written any-octet (pair-of s t) x
 honest-pair s t x l a b = honest-by (nibble-of s) (nibble-of t) x l (valued s (getD codes (x / 16) 0) a) (valued t (getD codes (x % 16) 0) b)
 
 mark-both : (o p : Option ℕ) → mark any-octet (both o p) ≡ (not (isSome o) || not (isSome p))
@@ -116,20 +116,20 @@ mark-both None p = refl
 mark-both (Some a) None = refl
 mark-both (Some a) (Some b) = refl
 
-mark-nibble : (s : Symbol) → not (isSome (nibble-of s)) ≡ mark may-be s
+mark-nibble : (s : Symbol) → not (isSome (nibble-of s)) ≡ mark is-code s
 mark-nibble (Clean v) = refl
 mark-nibble Spoiled = refl
 
-mark-pair : (s t : Symbol) → mark any-octet (pair-of s t) ≡ (mark may-be s || mark may-be t)
-mark-pair s t = mark-both (nibble-of s) (nibble-of t) ∙ ap (λ b. b || not (isSome (nibble-of t))) (mark-nibble s) ∙ ap (λ b. mark may-be s || b) (mark-nibble t)
+mark-pair : (s t : Symbol) → mark any-octet (pair-of s t) ≡ (mark is-code s || mark is-code t)
+mark-pair s t = mark-both (nibble-of s) (nibble-of t) ∙ ap (λ b. b || not (isSome (nibble-of t))) (mark-nibble s) ∙ ap (λ b. mark is-code s || b) (mark-nibble t)
 
-pub honest-group : (x : ℕ) (ss : List Symbol) → x < 256 → All-as-written may-be ss (code-of (x ∷ [])) → All-as-written any-octet (read-of ss) (x ∷ [])
+pub honest-group : (x : ℕ) (ss : List Symbol) → x < 256 → All-as-written is-code ss (code-of (x ∷ [])) → All-as-written any-octet (read-of ss) (x ∷ [])
 honest-group x [] l a = absurd a
 honest-group x (s ∷ []) l a = absurd (a .1)
 honest-group x (s ∷ t ∷ []) l a = (honest-pair s t x l (a .0) (a .1 .0), tt)
 honest-group x (s ∷ t ∷ u ∷ ss) l a = absurd (a .1 .1)
 
-pub marked-group : (x : ℕ) (ss : List Symbol) → All-as-written may-be ss (code-of (x ∷ [])) → map (mark any-octet) (read-of ss) ≡ rule-for (map (mark may-be) ss)
+pub marked-group : (x : ℕ) (ss : List Symbol) → All-as-written is-code ss (code-of (x ∷ [])) → map (mark any-octet) (read-of ss) ≡ rule-for (map (mark is-code) ss)
 marked-group x [] a = absurd a
 marked-group x (s ∷ []) a = absurd (a .1)
 marked-group x (s ∷ t ∷ ss) a = ap (λ b. b ∷ []) (mark-pair s t)
@@ -139,30 +139,24 @@ read-long [] e = absurd (omega arith)
 read-long (s ∷ []) e = absurd (omega arith)
 read-long (s ∷ t ∷ ss) e = refl
 
-pub rule-long : (ss : List Bool) → length ss ≡ 2 → length (rule-for ss) ≡ 1
-rule-long [] e = absurd (omega arith)
-rule-long (s ∷ []) e = absurd (omega arith)
-rule-long (s ∷ t ∷ ss) e = refl
-
 abbrev pub manchester : Grouping
 manchester = record {
   plain = 1;
   coded = 2;
   code = code-of;
   read = read-of;
-  may = may-be;
+  may = is-code;
   rule = rule-for;
   some = lit≤ tt;
   no-less = lit≤ tt;
   few = lit≤ tt;
   code-length = one-of (λ g. length (code-of g) ≡ 2) (λ x. refl);
   read-length = read-long;
-  rule-length = rule-long;
-  written = one-of (λ g. Octets g → Octets (code-of g) × All may-be (code-of g)) (λ x o. (
+  written = one-of (λ g. Octets g → Octets (code-of g) × All is-code (code-of g)) (λ x o. (
     (code-octet (x / 16) (upper x (o .0)), (code-octet (x % 16) (lower x), tt)),
     (ap isSome (code-value (x / 16) (upper x (o .0))), (ap isSome (code-value (x % 16) (lower x)), tt)),
   ));
   returns = one-of (λ g. Octets g → read-of (map Clean (code-of g)) ≡ map Clean g) (λ x o. ap (λ s. s ∷ []) (both-some x (o .0)));
-  honest = λ g ss. one-of (λ h. Octets h → All-as-written may-be ss (code-of h) → All-as-written any-octet (read-of ss) h) (λ x o. honest-group x ss (o .0)) g;
-  marked = λ g ss. one-of (λ h. Octets h → All-as-written may-be ss (code-of h) → map (mark any-octet) (read-of ss) ≡ rule-for (map (mark may-be) ss)) (λ x o. marked-group x ss) g;
+  honest = λ g ss. one-of (λ h. Octets h → All-as-written is-code ss (code-of h) → All-as-written any-octet (read-of ss) h) (λ x o. honest-group x ss (o .0)) g;
+  marked = λ g ss. one-of (λ h. Octets h → All-as-written is-code ss (code-of h) → map (mark any-octet) (read-of ss) ≡ rule-for (map (mark is-code) ss)) (λ x o. marked-group x ss) g;
 }

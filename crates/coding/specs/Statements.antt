@@ -1,6 +1,7 @@
 -- What is shown of every coding, and of the two codings here. Assumes nothing.
 use mathlib.Core.Path.{_≡_}
 use mathlib.Core.List.{List, []}
+use mathlib.Core.Bool.{Bool}
 use Prim.Native.Nat.{ℕ, _*_, _<_}
 use lib.ListN.{length, getD}
 use Rattle.std.specs.declared.option.Option.the-variants.{Some}
@@ -24,9 +25,12 @@ pub record Decoding (c : Grouping) (below above : Reception) : Type 0 where
 abbrev pub Decodes : Type 0
 Decodes = (c : Grouping) (below : Reception) → Decoding c below (decoded c below)
 
--- encoding a message of whole groups: the groups in turn, each in its code
+-- encoding a message of whole groups, and the marks of whole groups: the groups in turn, each in its code or by the rule of marks
 abbrev pub Encodes : Type 0
 Encodes = (c : Grouping) (k : ℕ) (xs : List ℕ) → length xs ≡ c .plain * k → Cut (c .plain) (c .code) xs (encoded c xs) []
+
+abbrev pub Marks : Type 0
+Marks = (c : Grouping) (k : ℕ) (ms : List Bool) → length ms ≡ c .coded * k → Cut (c .coded) (c .rule) ms (ruled c ms) []
 
 -- every layer of a coding keeps the three laws
 abbrev pub Keeps-laws : Type 0

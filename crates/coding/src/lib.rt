@@ -12,6 +12,7 @@ pub mod reading;
 pub mod sending;
 pub mod standard;
 pub mod standard_sending;
+mod unit;
 
 /// A coding of octets, group by group.
 pub trait Coding {

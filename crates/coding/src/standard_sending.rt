@@ -4,7 +4,7 @@ ghost use Rattle.std.specs.Of.Vec.{vec-items, vec-len};
 ghost use Rattle.radio.specs.Layer.{Octets};
 ghost use Rattle.radio.specs.Outlets.{Stored};
 ghost use Rattle.radio.specs.Bottoms.{fresh, one-cell};
-ghost use Rattle.radio.specs.Frames.{bits-of, frame};
+ghost use Rattle.radio.specs.Bits.{bits-of, frame};
 ghost use Rattle.coding.specs.ManchesterLaws.{manchester};
 ghost use Rattle.coding.specs.BlockLaws.{block};
 ghost use Rattle.coding.specs.Outgoing.{outgoing, standard-over};

@@ -12,7 +12,9 @@ use Rattle.std.specs.Joined.{joined}
 use Rattle.radio.specs.Layer.{Octets}
 use Rattle.radio.specs.Outlets.{laid-over, start}
 use Rattle.radio.specs.Bottoms.{written-at}
-use Rattle.radio.specs.Frames.{bits, number, bits-of, frame, unframed, Framed, Bits-pin-octets}
+use Rattle.radio.specs.Bits.{bits, number, bits-of, frame}
+use Rattle.radio.specs.Frames.{unframed, Framed, Bits-pin-octets}
+use Rattle.radio.proofs.LowBits.{take-low, drop-low, length-bits}
 use Rattle.radio.proofs.States.{joined-append}
 use Rattle.radio.proofs.Cells.{Lays, take-written, front-length, written-further}
 
@@ -46,16 +48,6 @@ bits-join a b lo hi h =
     ∙ ap (λ ys. ys ++ bits b ((lo + 2 ^ a * hi) / 2 ^ a)) (bits-low a lo hi)
     ∙ ap (λ y. bits a lo ++ bits b y) (ap (λ y. y / 2 ^ a) e ∙ shr-high hi a lo h)
 
-module _ (a n x : ℕ) (h : a ≤ n) where
-  in-two : bits n x ≡ bits a x ++ bits (n - a) (x / 2 ^ a)
-  in-two = ap (λ m. bits m x) (omega arith) ∙ bits-split a (n - a) x
-
-  pub take-bits : take a (bits n x) ≡ bits a x
-  take-bits = ap (take a) in-two ∙ take-at (bits a x) (bits (n - a) (x / 2 ^ a)) a (bits-length a x)
-
-  pub drop-bits : drop a (bits n x) ≡ bits (n - a) (x / 2 ^ a)
-  drop-bits = ap (drop a) in-two ∙ drop-at (bits a x) (bits (n - a) (x / 2 ^ a)) a (bits-length a x)
-
 pub frame-bits : (x : ℕ) → x < 256 → bits 10 (1 + 2 * x) ≡ frame x
 frame-bits x h =
     let z : x / 256 ≡ 0 = omega arith in
@@ -73,10 +65,10 @@ module _ (word s x : ℕ) (l : s ≤ 6) (h : x < 256) where
   sixteen = omega arith
 
   low : bits s (word % 2 ^ s) ≡ take s (bits 16 word)
-  low = sym (take-bits s 16 word (omega arith) ∙ ap (bits s) (sym (mod-add-div word (2 ^ s))) ∙ bits-low s (word % 2 ^ s) (word / 2 ^ s))
+  low = sym (take-low s 16 word (omega arith) ∙ ap (bits s) (sym (mod-add-div word (2 ^ s))) ∙ bits-low s (word % 2 ^ s) (word / 2 ^ s))
 
   high : bits (6 - s) hi ≡ drop (s + 10) (bits 16 word)
-  high = ap (λ n. bits n hi) (omega arith) ∙ ap (bits (16 - (s + 10))) (shr-shr word s 10) ∙ sym (drop-bits (s + 10) 16 word (omega arith))
+  high = ap (λ n. bits n hi) (omega arith) ∙ ap (bits (16 - (s + 10))) (shr-shr word s 10) ∙ sym (drop-low (s + 10) 16 word)
 
   pub framed-over : (scale : ℕ) → scale ≡ 2 ^ s → bits 16 (word % scale + scale * (f + 1024 * (word / scale / 1024))) ≡ take s (bits 16 word) ++ (frame x ++ drop (s + 10) (bits 16 word))
   framed-over scale e =
@@ -111,10 +103,6 @@ spliced F W R fr n s k l at h =
         let q : n + s + length fr ≡ n + k = omega arith in
         sym (ap (λ j. drop j (F ++ (W ++ R))) q ∙ sym (drop-drop k n (F ++ (W ++ R))) ∙ ap (drop k) (drop-at F (W ++ R) n l) ∙ drop-append-le k W R h)
 
-pub bits-of-length : (xs : List ℕ) → length (bits-of xs) ≡ 8 * length xs
-bits-of-length [] = refl
-bits-of-length (x ∷ xs) = let i = bits-of-length xs in omega arith
-
 -- two bytes written
 module _ (ms : List ℕ) (q x y : ℕ) (fits : q + 1 < length ms) (xis : x ≡ getD ms q 0) (yis : y ≡ getD ms (q + 1) 0) where
   abbrev P : List ℕ
@@ -148,7 +136,7 @@ module _ (ms : List ℕ) (q x y : ℕ) (fits : q + 1 < length ms) (xis : x ≡ g
   two-laid s laid fr l ten small e =
       let W = bits 16 (x + 256 * y) in
       let w : length W ≡ 16 = bits-length 16 (x + 256 * y) in
-      let n : length (bits-of P) ≡ 8 * q = bits-of-length P ∙ ap (λ k. 8 * k) P-length in
+      let n : length (bits-of P) ≡ 8 * q = length-bits P ∙ ap (λ k. 8 * k) P-length in
       let lo : bits 8 (laid % 256) ≡ bits 8 laid = sym (ap (bits 8) (sym (mod-add-div laid 256)) ∙ bits-low 8 (laid % 256) (laid / 256)) in
       let up : bits 8 (laid / 256 % 256) ≡ bits 8 (laid / 256) = sym (ap (bits 8) (sym (mod-add-div (laid / 256) 256)) ∙ bits-low 8 (laid / 256 % 256) (laid / 256 / 256)) in
       let old : bits-of P ++ (W ++ bits-of Q) ≡ bits-of ms = ap (λ ys. bits-of P ++ (ys ++ bits-of Q)) (bits-join 8 8 x y small) ∙ sym (bits-two x y) ∙ ap bits-of (sym ms-is) in
@@ -198,7 +186,7 @@ module _ (memory memory′ : List ℕ) (used : ℕ) (xs : List ℕ) (k : ℕ) (a
   ten = let j = frames-length xs in omega arith
 
   enough : 10 * k ≤ length B
-  enough = let b = bits-of-length memory in omega arith
+  enough = let b = length-bits memory in omega arith
 
   channel-is : unframed k (bits-of memory′) ≡ unframed used B ++ xs
   channel-is =
@@ -244,8 +232,8 @@ module _ where
 
   pub bits-pin : Bits-pin-octets
   bits-pin xs ys o p e =
-      let a = bits-of-length xs in
-      let b = bits-of-length ys in
+      let a = length-bits xs in
+      let b = length-bits ys in
       let c = ap length e in
       let n : length xs ≡ length ys = omega arith in
       sym (bytes-back xs o) ∙ ap (λ k. bytes-in k (bits-of xs)) n ∙ ap (bytes-in (length ys)) e ∙ bytes-back ys p
@@ -257,7 +245,7 @@ module _ (memory now next : List ℕ) (n i x : ℕ) (e : bits-of now ≡ written
   laid-behind =
       let l : length (replicate {A = ℕ} i 240) ≡ i = length-replicate i 240 in
       let f = frames-length (replicate i 240) in
-      let b = bits-of-length memory in
+      let b = length-bits memory in
       laid ∙ ap (λ zs. written-at zs (10 * (n + i)) (frame x)) e
       ∙ written-further (bits-of memory) (10 * n) (joined frame (replicate i 240)) (10 * (n + i)) (omega arith) (omega arith) (frame x)
       ∙ ap (λ zs. written-at (bits-of memory) (10 * n) (joined frame (replicate i 240) ++ zs)) (sym (append-nil (frame x)))

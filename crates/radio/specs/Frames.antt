@@ -1,31 +1,14 @@
--- The bits of octets, the frames that carry them, and what the bit outlet means. Assumes nothing.
+-- What the bit outlet means, by the frames in its memory. Assumes nothing.
 use mathlib.Core.Path.{_≡_}
-use mathlib.Core.List.{List, [], _∷_, _++_}
-use Prim.Native.Nat.{ℕ, zero, suc, _+_, _*_, _/_, _%_, _≤_}
-use lib.ListN.{length, take, drop}
+use mathlib.Core.List.{List, [], _∷_}
+use Prim.Native.Nat.{ℕ, zero, suc, _*_, _≤_}
+use lib.ListN.{take, drop}
 use Rattle.std.specs.Joined.{joined}
 use Rattle.radio.specs.declared.turn.Turn.{Turn}
 use Rattle.radio.specs.Layer.{Octets}
+use Rattle.radio.specs.Bits.{number, bits-of, frame}
 use Rattle.radio.specs.Outlets.{State, Sound}
 use Rattle.radio.specs.Bottoms.{bottom, bottom-sound}
-
--- the n lowest bits of a number, the lowest first
-abbrev pub bits : ℕ → ℕ → List ℕ
-bits zero x = []
-bits (suc n) x = x % 2 ∷ bits n (x / 2)
-
--- the number that these bits are, the lowest first
-abbrev pub number : List ℕ → ℕ
-number [] = 0
-number (b ∷ bs) = b + 2 * number bs
-
--- the bits of a memory, the lowest of each byte first
-abbrev pub bits-of : List ℕ → List ℕ
-bits-of bytes = joined (bits 8) bytes
-
--- the frame of an octet: a 1, its eight bits lowest first, a 0
-abbrev pub frame : ℕ → List ℕ
-frame x = 1 ∷ (bits 8 x ++ (0 ∷ []))
 
 -- the octets in the first n frames
 abbrev pub unframed : ℕ → List ℕ → List ℕ

@@ -1,7 +1,9 @@
 -- What a line means, and what opening and taking do to it. Assumes nothing.
-use mathlib.Core.Path.{_≡_}
+use mathlib.Core.Path.{_≡_, refl, ap}
 use mathlib.Core.List.{List, [], _∷_, map}
+use mathlib.Core.Bool.{Bool, true, false}
 use Prim.Native.Nat.{ℕ, _≤_}
+use lib.Dec.{lit≤}
 use Rattle.std.specs.declared.option.Option.{Option}
 use Rattle.std.specs.declared.option.Option.the-variants.{Some, None}
 use Rattle.std.specs.declared.result.Result.{Result}
@@ -10,7 +12,7 @@ use Rattle.refusal.specs.declared.Fault.{Fault}
 use Rattle.refusal.specs.declared.Refusal.{Refusal}
 use Rattle.refusal.specs.declared.Refusal.the-variants.{Quiet}
 use Rattle.radio.specs.declared.symbol.Symbol.{Symbol}
-use Rattle.radio.specs.Reception.{Reception, Ending, whole, fault}
+use Rattle.radio.specs.Reception.{Reception, Ending, whole, fault, unopened}
 use Rattle.radio.specs.Layer.{Pile, unit-of, read-through}
 
 pub record Heard : Type 0 where
@@ -32,6 +34,28 @@ pub record Sound (h : Heard) : Type 0 where
   pub grounded : 1 ≤ h .ground
   pub layered : h .coming ≡ map (read-through (h .pile)) (h .air)
 
+-- what a bottom of unit 1 means
+abbrev pub at-bottom : Reception → List Reception → Heard
+at-bottom p cs = record { present = p; coming = cs; pile = []; air = cs; ground = 1 }
+
+-- nothing is present at a bottom before the first opening
+abbrev pub present-of : Bool → Reception → Reception
+present-of false r = unopened
+present-of true r = r
+
+-- nothing is to come at a bottom whose search for the next sign found none
+abbrev pub to-come : Bool → List Reception → List Reception
+to-come false cs = cs
+to-come true cs = []
+
+pub read-bare : (cs : List Reception) → cs ≡ map (read-through []) cs
+read-bare [] = refl
+read-bare (c ∷ cs) = ap (λ ds. c ∷ ds) (read-bare cs)
+
+pub bottom-sound : (p : Reception) (cs : List Reception) → Sound (at-bottom p cs)
+bottom-sound p cs = record { grounded = lit≤ tt; layered = read-bare cs }
+
+-- all but the first
 abbrev pub tail : {A : Type 0} → List A → List A
 tail [] = []
 tail (x ∷ xs) = xs
@@ -64,3 +88,7 @@ next p = first (p .symbols) (p .ending)
 -- the line once a symbol has been taken: the present reception without its first symbol
 abbrev pub taken : Heard → Heard
 taken h = record { present = record { symbols = tail (h .present .symbols); ending = h .present .ending }; coming = h .coming; pile = h .pile; air = h .air; ground = h .ground }
+
+-- what a take answers, and what it leaves of what the line meant
+abbrev pub Takes : Heard → Result (Option Symbol) Fault → Heard → Type 0
+Takes a r b = (r ≡ next (a .present)) × (b ≡ taken a)

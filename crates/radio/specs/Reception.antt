@@ -18,16 +18,26 @@ pub record Reception : Type 0 where
   pub ending : Ending
 
 -- a fault at its maker, which had given n symbols in this reception
+abbrev pub fault-at : Cause → ℕ → Fault
+fault-at c n = record { cause = c; place = min n 65535; rise = 0 }
+
 abbrev pub made-at : Cause → ℕ → Ending
-made-at c n = fault (record { cause = c; place = min n 65535; rise = 0 })
+made-at c n = fault (fault-at c n)
 
 -- a fault that comes up through a layer: one more to the rise, which stays at 255
 abbrev pub raised : Fault → Fault
 raised f = record { cause = f .cause; place = f .place; rise = min (f .rise + 1) 255 }
 
+-- a reception with no symbol left, and one with one symbol more in front
+abbrev pub ending-in : Ending → Reception
+ending-in e = record { symbols = []; ending = e }
+
+abbrev pub before : Symbol → Reception → Reception
+before s r = record { symbols = s ∷ r .symbols; ending = r .ending }
+
 -- what is present at a bottom before the first opening
 abbrev pub unopened : Reception
-unopened = record { symbols = []; ending = made-at Dry 0 }
+unopened = ending-in (made-at Dry 0)
 
 -- a symbol counts as spoiled below a layer that may write only some octets
 abbrev pub mark : (ℕ → Bool) → Symbol → Bool

@@ -154,8 +154,8 @@ impl Refusal {
 pub impl From<Fault> for Refusal as RefusalFromFault {
     ghost converts = { λ f r. r ≡ Faulty f };
 
-    fn from(f: Fault) -> Refusal {
-        Refusal::Fault(f)
+    fn from(fault: Fault) -> Refusal {
+        Refusal::Fault(fault)
     }
 }
 
@@ -164,8 +164,8 @@ pub impl fmt::Display for Refusal as RefusalDisplay {
     ghost shown = { λ r. Some (refusal-text r) };
 
     fn fmt<W: fmt::Write>(&self, f: &mut fmt::Formatter<W>) -> fmt::Result {
-        if let Refusal::Fault(fault) = self {
-            return write!(f, "{fault}");
+        if let Refusal::Fault(heard) = self {
+            return write!(f, "{heard}");
         }
         let number = self.number();
         let name = self.name();

@@ -1,10 +1,14 @@
 ghost use mathlib.Core.Path.{_≡_};
+ghost use lib.ListN.{getD};
+ghost use Rattle.refusal.specs.declared.Cause.the-variants.{Torn};
+ghost use Rattle.radio.specs.declared.symbol.Symbol.the-variants.{Clean};
 ghost use Rattle.coding.specs.Half.{fresh};
-ghost use Rattle.coding.specs.Meaning.{meaning, meaning-sound};
+ghost use Rattle.coding.specs.Meaning.{meaning, meaning-sound, Reads, Tears};
 use crate::Coding;
 use crate::gather::FaultFromRaised;
 use crate::gather::gather;
 use crate::reading::Reading;
+use crate::unit::unit_over;
 use radio::line::Line;
 use radio::symbol::Symbol;
 use refusal::Cause;
@@ -24,6 +28,33 @@ impl<C: Coding, L: Line> Reading<C, L> {
             end: 0,
             given: 0,
             torn: false,
+        }
+    }
+
+    /// Reads a whole group: gives its first symbol, and keeps the others to be taken.
+    fn read(&mut self, group: &[Symbol; 8]) -> Symbol
+        ensures first { λ r. ⌜ r ≡ getD (now (self .exit) .ready) 0 (Clean 0) ⌝ }
+        ensures keeps { λ _. ⌜ Reads (C·Coding .grouping) (now (group .entry)) (now (self .entry)) (now (self .exit)) ⌝ }
+    {
+        let ready = self.coding.decode(group);
+        let plain = self.coding.plain();
+        self.ready = ready;
+        self.at = 1;
+        self.end = plain;
+        self.given = self.given.saturating_add(plain as u16);
+        ready[0]
+    }
+
+    /// The fault of a torn group, which stays until the next opening.
+    fn tear(&mut self) -> Fault
+        ensures is { λ r. ⌜ r ≡ record { cause = Torn; place = now (self .entry) .given; rise = 0 } ⌝ }
+        ensures keeps { λ _. ⌜ Tears (now (self .entry)) (now (self .exit)) ⌝ }
+    {
+        self.torn = true;
+        Fault {
+            cause: Cause::Torn,
+            place: self.given,
+            rise: 0,
         }
     }
 }
@@ -48,13 +79,8 @@ pub impl<C: Coding, L: Line> Line for Reading<C, L> as ReadingLine {
             self.at += 1;
             return Ok(Some(s));
         }
-        let torn = Fault {
-            cause: Cause::Torn,
-            place: self.given,
-            rise: 0,
-        };
         if self.torn {
-            return Err(torn);
+            return Err(self.tear());
         }
         let want = self.coding.coded();
         let mut group = [Symbol::Spoiled; 8];
@@ -63,20 +89,12 @@ pub impl<C: Coding, L: Line> Line for Reading<C, L> as ReadingLine {
             return Ok(None);
         }
         if n < want {
-            self.torn = true;
-            return Err(torn);
+            return Err(self.tear());
         }
-        let ready = self.coding.decode(&group);
-        let plain = self.coding.plain();
-        self.ready = ready;
-        self.given = self.given.saturating_add(plain as u16);
-        self.at = 1;
-        self.end = plain;
-        Ok(Some(ready[0]))
+        Ok(Some(self.read(&group)))
     }
 
     fn unit_of(&self) -> u16 {
-        let unit = self.below.unit_of() as usize * self.coding.plain();
-        if unit < 65535 { unit as u16 } else { 65535 }
+        unit_over(self.below.unit_of(), self.coding.plain())
     }
 }

@@ -1,11 +1,12 @@
 ghost use mathlib.Core.Path.{_≡_};
 ghost use mathlib.Core.List.{[]};
-ghost use Prim.Native.Nat.{_≤_, _<_, _*_, min};
+ghost use Prim.Native.Nat.{_≤_, _<_};
 ghost use lib.ListN.{length, take, set};
 ghost use Rattle.radio.specs.Outlets.{answer, put-refusal, Leaves, Put};
 ghost use Rattle.coding.specs.Outgoing.{turn-over, over-outlet, outgoing, outgoing-sound, Sends-coding};
 use crate::Coding;
 use crate::sending::Sending;
+use crate::unit::unit_over;
 use radio::outlet::Outlet;
 use radio::turn::Turn;
 use radio::write::put_all;
@@ -54,14 +55,6 @@ fn turn_over(turn: Turn, plain: usize, coded: usize, held: usize) -> Turn
         return Turn::Stuck;
     }
     Turn::Owing((owed / coded * plain).saturating_sub(held) as u16)
-}
-
-/// The unit of a half, or 65,535 where it is larger, from that below.
-fn unit_over(unit: u16, plain: usize) -> u16
-    requires { ⌜ plain ≤ 8 ⌝ }
-    ensures { λ r. ⌜ r ≡ min (unit * plain) 65535 ⌝ }
-{
-    (unit as usize * plain).min(65535) as u16
 }
 
 /// A group with one more octet in it.

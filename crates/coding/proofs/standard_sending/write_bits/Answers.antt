@@ -7,7 +7,8 @@ use Rattle.refusal.specs.declared.Refusal.{Refusal}
 use Rattle.radio.specs.declared.bit_outlet.BitOutlet.{BitOutlet}
 use Rattle.radio.specs.Outlets.{State, Stored}
 use Rattle.radio.specs.Bottoms.{fresh}
-use Rattle.radio.specs.Frames.{bits-of, frame, over-bits}
+use Rattle.radio.specs.Bits.{bits-of, frame}
+use Rattle.radio.specs.Frames.{over-bits}
 use Rattle.radio.proofs.States.{stored-ok, stored-err}
 use Rattle.coding.specs.ManchesterLaws.{manchester}
 use Rattle.coding.specs.BlockLaws.{block}

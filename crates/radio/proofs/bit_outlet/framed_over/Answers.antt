@@ -4,7 +4,7 @@ use lib.Pow.{pow-mono}
 use native.Mathlib.Omega.{arith}
 use borrow.Author.Needs.{needs}
 use Rattle.std.proofs.shelf.Bits.{one-shl, pow-pos}
-use Rattle.radio.specs.Frames.{bits}
+use Rattle.radio.specs.Bits.{bits}
 use Rattle.radio.proofs.Frames.{framed-over}
 use Rattle.radio.proofs.bit_outlet.framed_over.Needs as need
 

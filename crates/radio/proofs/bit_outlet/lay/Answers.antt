@@ -6,7 +6,7 @@ use native.Mathlib.Omega.{arith}
 use borrow.Author.Needs.{needs}
 use Rattle.std.proofs.shelf.Lists.{getD-read}
 use Rattle.radio.specs.Bottoms.{written-at}
-use Rattle.radio.specs.Frames.{frame, bits-of}
+use Rattle.radio.specs.Bits.{frame, bits-of}
 use Rattle.radio.proofs.Frames.{two-laid}
 use Rattle.radio.proofs.bit_outlet.lay.Needs as need
 

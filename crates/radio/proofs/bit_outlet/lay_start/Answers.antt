@@ -5,7 +5,7 @@ use native.Mathlib.Omega.{arith}
 use borrow.Author.Needs.{needs}
 use Rattle.std.specs.Joined.{joined}
 use Rattle.radio.specs.Bottoms.{written-at}
-use Rattle.radio.specs.Frames.{bits-of, frame}
+use Rattle.radio.specs.Bits.{bits-of, frame}
 use Rattle.radio.proofs.Cells.{written-none}
 use Rattle.radio.proofs.Frames.{laid-behind, more-laid}
 use Rattle.radio.proofs.bit_outlet.lay_start.Needs as need

@@ -4,7 +4,7 @@ use lib.ListN.{replicate}
 use Rattle.std.specs.Joined.{joined}
 use Rattle.std.specs.Of.Vec.{vec-items, vec-len}
 use Rattle.radio.specs.Bottoms.{written-at}
-use Rattle.radio.specs.Frames.{bits-of, frame}
+use Rattle.radio.specs.Bits.{bits-of, frame}
 use Rattle.radio.proofs.bit_outlet.lay_start.Given as given
 
 abbrev pub Inv-loop-i : given.InvT-loop-i

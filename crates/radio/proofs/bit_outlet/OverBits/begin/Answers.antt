@@ -4,7 +4,8 @@ use lib.ListN.{length}
 use native.Mathlib.Omega.{arith}
 use borrow.Author.Needs.{needs}
 use Rattle.radio.specs.Outlets.{start}
-use Rattle.radio.specs.Frames.{bits-of, frame, unframed}
+use Rattle.radio.specs.Bits.{bits-of, frame}
+use Rattle.radio.specs.Frames.{unframed}
 use Rattle.radio.proofs.Cells.{length-start, bottom-begun}
 use Rattle.radio.proofs.Frames.{frames-lay, still-framed, octets-start}
 use Rattle.radio.proofs.bit_outlet.OverBits.begin.Needs as need

@@ -5,7 +5,8 @@ use lib.Dec.{lit<}
 use lib.ListN.{length}
 use native.Mathlib.Omega.{arith}
 use borrow.Author.Needs.{needs}
-use Rattle.radio.specs.Frames.{bits-of, frame, unframed}
+use Rattle.radio.specs.Bits.{bits-of, frame}
+use Rattle.radio.specs.Frames.{unframed}
 use Rattle.radio.proofs.Cells.{bottom-ended}
 use Rattle.radio.proofs.Frames.{one-lays, one-framed}
 use Rattle.radio.proofs.bit_outlet.OverBits.end.Needs as need

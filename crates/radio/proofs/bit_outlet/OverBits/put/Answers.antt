@@ -6,7 +6,8 @@ use native.Mathlib.Omega.{arith}
 use borrow.Author.Needs.{needs}
 use Rattle.std.proofs.shelf.Lists.{append-nil}
 use Rattle.radio.specs.Bottoms.{written-at}
-use Rattle.radio.specs.Frames.{bits-of, frame, unframed}
+use Rattle.radio.specs.Bits.{bits-of, frame}
+use Rattle.radio.specs.Frames.{unframed}
 use Rattle.radio.proofs.Cells.{bottom-put}
 use Rattle.radio.proofs.Frames.{one-lays, one-framed}
 use Rattle.radio.proofs.bit_outlet.OverBits.put.Needs as need

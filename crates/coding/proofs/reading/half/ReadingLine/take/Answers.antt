@@ -1,18 +1,16 @@
-use mathlib.Core.Path.{_≡_, refl, sym, ap, subst, _∙_}
-use mathlib.Core.List.{List, [], _∷_}
-use Prim.Native.Nat.{ℕ, _≤_, _<_}
+use mathlib.Core.Path.{_≡_, refl, sym, ap, _∙_}
+use mathlib.Core.Bool.{true}
+use Prim.Native.Nat.{_≤_, _<_}
 use native.Mathlib.Omega.{arith}
 use lib.ListN.{length, take}
 use borrow.Author.Needs.{needs}
 use Rattle.std.proofs.shelf.Lists.{nil-from-length}
 use Rattle.std.proofs.shelf.Results.{err-from-errBy}
-use Rattle.std.specs.declared.option.Option.{Option}
-use Rattle.std.specs.declared.result.Result.{Result}
-use Rattle.refusal.specs.declared.Fault.{Fault}
-use Rattle.radio.specs.declared.symbol.Symbol.{Symbol}
+use Rattle.std.specs.declared.option.Option.the-variants.{Some}
+use Rattle.std.specs.declared.result.Result.the-variants.{Ok, Err}
 use Rattle.radio.specs.declared.symbol.Symbol.the-variants.{Clean}
 use Rattle.coding.specs.Gather.{past}
-use Rattle.coding.proofs.Halves.{ready-taken, torn-again, none-waiting, fault-below, end-below, tear-below, full-below}
+use Rattle.coding.proofs.Halves.{ready-taken, torn-again, none-waiting, fault-below, end-below, tear-below, full-below, same-meaning}
 use Rattle.coding.proofs.reading.half.ReadingLine.take.Needs as need
 
 pub returns-then-self : need.returns-then-self
@@ -25,10 +23,15 @@ returns-then-self g c =
 pub returns-then-self-2 : need.returns-then-self-2
 returns-then-self-2 g c =
     let s = c .args .self .now in
+    let k = g .C·Coding .grouping in
     let w : s .end ≤ length (s .ready) = search needs in
-    let k : s .given < 65536 = search needs in
-    let t = torn-again (g .C·Coding .grouping) (s .torn) (s .given) (g .L·Line .heard (s .below)) _ (none-waiting (s .at) (s .end) (s .ready) (c .if-self .left) w) (c .if-self-2 .taken) k in
-    record { answers = t .answers; left = t .left }
+    let given : s .given < 65536 = search needs in
+    let t = torn-again k (s .torn) (s .given) (g .L·Line .heard (s .below)) _ (none-waiting (s .at) (s .end) (s .ready) (c .if-self .left) w) (c .if-self-2 .taken) given in
+    let m = c .tear .ensures .keeps in
+    record {
+      answers = ap Err (c .tear .ensures .is) ∙ t .answers;
+      left = same-meaning k (g .L·Line .heard) (c .tear .last .self) (s .at) (s .end) (s .ready) true (s .given) (s .below) (m .at) (m .end) (m .ready) (m .torn) (m .given) (m .below) ∙ t .left;
+    }
 
 pub returns-in-Break-n : need.returns-in-Break-n
 returns-in-Break-n g c =
@@ -69,9 +72,14 @@ returns-then-n-want g c =
     let e = c .coded-want .ensures in
     let some : 1 ≤ length (h .present .symbols) = omega (arith, o .gives .0, c .if-n-eq0 .left) in
     let l : length (h .present .symbols) < k .coded = omega (arith, o .gives .0, c .if-n-want .taken, e) in
-    let t = tear-below k _ (s .torn) (s .given) h (g .L·Line .heard (c .gather .last .below)) (none-waiting (s .at) (s .end) (s .ready) (c .if-self .left) w) (c .if-self-2 .left)
+    let below = c .gather .last .below in
+    let t = tear-below k _ (s .torn) (s .given) h (g .L·Line .heard below) (none-waiting (s .at) (s .end) (s .ready) (c .if-self .left) w) (c .if-self-2 .left)
     (o .left ∙ ap (λ n. past n h) e) some l (o .gives .2 (c .if-n-want .taken)) given in
-    record { answers = t .answers; left = t .left }
+    let m = c .tear-then-n-want .ensures .keeps in
+    record {
+      answers = ap Err (c .tear-then-n-want .ensures .is) ∙ t .answers;
+      left = same-meaning k (g .L·Line .heard) (c .tear-then-n-want .last .self) (s .at) (s .end) (s .ready) true (s .given) below (m .at) (m .end) (m .ready) (m .torn) (m .given) (m .below) ∙ t .left;
+    }
 
 pub returns : need.returns
 returns g c =
@@ -83,10 +91,15 @@ returns g c =
     let e = c .coded-want .ensures in
     let n : c .in-Continue-n .n ≡ c .coded-want .result = omega (arith, o .gives .0, c .if-n-want .left) in
     let l : k .coded ≤ length (h .present .symbols) = omega (arith, o .gives .0, e, n) in
-    let same : take (k .coded) (c .gather .last .group) ≡ take (k .coded) (h .present .symbols) =
-    ap (λ m. take m (c .gather .last .group)) (sym (n ∙ e)) ∙ o .gives .1 ∙ ap (λ m. take m (h .present .symbols)) e in
-    let long : k .plain ≤ length (c .decode-ready .result) = search needs in
-    let t = full-below k _ (s .torn) (s .given) h (g .L·Line .heard (c .gather .last .below)) (none-waiting (s .at) (s .end) (s .ready) (c .if-self .left) w) (c .if-self-2 .left)
-    (o .left ∙ ap (λ m. past m h) e) (c .saturating-add-self .result) (c .plain-plain .result) (c .gather .last .group) (c .decode-ready .result) (Clean 0)
-    l same (c .decode-ready .ensures) long (c .saturating-add-self .ensures) (c .plain-plain .ensures) in
-    record { answers = t .answers; left = t .left }
+    let group = c .gather .last .group in
+    let same : take (k .coded) group ≡ take (k .coded) (h .present .symbols) =
+    ap (λ z. take z group) (sym (n ∙ e)) ∙ o .gives .1 ∙ ap (λ z. take z (h .present .symbols)) e in
+    let below = c .gather .last .below in
+    let b = c .read .last .self in
+    let m = c .read .ensures .keeps in
+    let t = full-below k _ (s .torn) (s .given) h (g .L·Line .heard below) (none-waiting (s .at) (s .end) (s .ready) (c .if-self .left) w) (c .if-self-2 .left)
+    (o .left ∙ ap (λ z. past z h) e) (b .given) group (b .ready) (Clean 0) l same (m .ready) (m .given) in
+    record {
+      answers = ap (λ z. Ok (Some z)) (c .read .ensures .first) ∙ t .answers;
+      left = same-meaning k (g .L·Line .heard) b 1 (k .plain) (b .ready) (s .torn) (b .given) below (m .at) (m .end) refl (m .torn) refl (m .below) ∙ t .left;
+    }

@@ -1,0 +1,5 @@
+pub mod Apart
+pub mod Bodies
+pub mod Handed
+pub mod Message
+pub mod Parts
