@@ -1,28 +1,27 @@
 -- What a sending half comes to. Assumes nothing.
-use mathlib.Core.Path.{_≡_, refl, sym, ap, _∙_, subst}
-use mathlib.Core.List.{List, [], _∷_, _++_, append-assoc}
-use mathlib.Core.Bool.{Bool, true, false, cond, _&&_, _||_}
+use mathlib.Core.Path.{_≡_, refl, sym, ap, _∙_}
+use mathlib.Core.List.{List, [], _∷_, _++_}
+use mathlib.Core.Bool.{Bool, true, false, cond, _||_}
 use mathlib.Core.Logic.{⊎-elim}
 use Prim.Native.Nat.{ℕ, zero, suc, _+_, _-_, _*_, _/_, _%_, _<_, _≤_, min}
-use native.Mathlib.Nat.{ℕ-set, div-mul-le-self, mul-le-mul-left, mul-assoc, mul-comm, mul-suc, add-mul, one-mul, div-add-mod, div-add-mod', mul-div-right, mul-div-cancel, mul-mod-left, mul-mod-right, mul-add-div, div-eq-of-lt}
+use native.Mathlib.Nat.{ℕ-set, div-mul-le-self, mul-le-mul-left, mul-assoc, mul-comm, add-mul, one-mul, div-add-mod, div-add-mod', mul-div-right, mul-div-cancel, mul-mod-left, mul-mod-right, mul-add-div, div-eq-of-lt}
 use native.Mathlib.Numerals.{add-one}
 use native.Mathlib.Omega.{arith}
-use borrow.Author.Tests.{eqb-true, eq-eqb, ne-eqb, leb-true, le-leb}
+use borrow.Author.Tests.{eqb-true, eq-eqb, ne-eqb, le-leb}
 use lib.Dec.{leb, eqb}
 use lib.ListN.{length, take, set}
-use Rattle.std.proofs.shelf.Lists.{length-append, length-take-le, length-push, length-set, take-more-set, append-nil}
+use Rattle.std.proofs.shelf.Lists.{length-take-le, length-push, take-more-set}
 use Rattle.std.proofs.shelf.Tests.{and-parts, and-from, or-cases}
 use Rattle.std.specs.declared.option.Option.{Option}
-use Rattle.std.specs.declared.option.Option.the-variants.{Some, None}
-use Rattle.std.specs.declared.result.Result.{Result}
+use Rattle.std.specs.declared.option.Option.the-variants.{None}
 use Rattle.std.specs.declared.result.Result.the-variants.{Ok, Err}
 use Rattle.refusal.specs.declared.Refusal.{Refusal}
 use Rattle.refusal.specs.declared.Refusal.the-variants.{Argument, Turn as Out-of-turn, Uneven, Space}
 use Rattle.radio.specs.declared.turn.Turn.{Turn}
 use Rattle.radio.specs.declared.turn.Turn.the-variants.{Idle, Owing, Stuck}
-use Rattle.radio.specs.Layer.{Pile, cost-of, sent-through}
+use Rattle.radio.specs.Layer.{Pile, cost-of}
 use Rattle.radio.specs.Lines.{tail}
-use Rattle.radio.specs.Outlets.{State, Sound, Goes-on, Begun, Put, Ended, unit, answer, unless, idle, a-preamble, even, out-of-form, begin-refusal, put-refusal, end-refusal, needed, less}
+use Rattle.radio.specs.Outlets.{State, Sound, Goes-on, Begun, Put, Ended, unit, answer, unless, idle, a-preamble, even, out-of-form, begin-refusal, put-refusal, needed, less}
 use Rattle.radio.proofs.States.{form-ok, no-space, put-accepted, goes-nowhere}
 use Rattle.coding.specs.declared.sending.Sending.{Sending}
 use Rattle.coding.specs.Regroup.{regroup}

@@ -1,17 +1,16 @@
 -- What writing cells does to what an outlet over a memory means. Assumes nothing.
-use mathlib.Core.Path.{_≡_, refl, sym, ap, _∙_, subst}
+use mathlib.Core.Path.{_≡_, refl, sym, ap, _∙_}
 use mathlib.Core.List.{List, [], _∷_, _++_, append-assoc}
-use Prim.Native.Nat.{ℕ, _+_, _-_, _*_, _<_, _≤_}
+use Prim.Native.Nat.{ℕ, _+_, _-_, _<_, _≤_}
 use native.Mathlib.Nat.{add-zero}
 use native.Mathlib.Numerals.{add-one}
 use native.Mathlib.Omega.{arith}
 use lib.ListN.{length, take, drop, set, replicate}
 use Rattle.std.proofs.shelf.Lists.{length-append, length-take-le, length-drop, length-replicate, take-at, drop-at, drop-drop, set-split, replicate-more, take-append-drop}
-use Rattle.std.specs.Joined.{joined}
 use Rattle.radio.specs.declared.turn.Turn.{Turn}
 use Rattle.radio.specs.declared.turn.Turn.the-variants.{Idle, Owing}
-use Rattle.radio.specs.Outlets.{State, Goes-on, Begun, Ended, Put, laid-over, start, stop, needed, less}
-use Rattle.radio.specs.Bottoms.{bottom, written-at, one-cell, over-octets, joined-one}
+use Rattle.radio.specs.Outlets.{Goes-on, Begun, Ended, Put, laid-over, start, stop, less}
+use Rattle.radio.specs.Bottoms.{bottom, written-at, one-cell, joined-one}
 
 module _ (memory : List ℕ) (n : ℕ) (xs : List ℕ) (k : ℕ) (at : k ≡ n + length xs) (fits : k ≤ length memory) where
   pub front-length : length (take n memory ++ xs) ≡ k

@@ -1,5 +1,5 @@
 -- Bits, frames, and what writing a frame does to what the bit outlet means. Assumes nothing.
-use mathlib.Core.Path.{_≡_, refl, sym, ap, _∙_, subst}
+use mathlib.Core.Path.{_≡_, refl, sym, ap, _∙_}
 use mathlib.Core.List.{List, [], _∷_, _++_, append-assoc}
 use Prim.Native.Nat.{ℕ, zero, suc, _+_, _-_, _*_, _/_, _%_, _^_, _<_, _≤_}
 use native.Mathlib.Nat.{zero-add, div-one, mul-comm, mul-assoc, mod-lt, mod-add-div, pow-succ'}
@@ -10,7 +10,7 @@ use Rattle.std.proofs.shelf.Bits.{pow-pos, shr-shr, shr-high}
 use Rattle.std.proofs.shelf.Lists.{append-nil, length-append, length-take-le, length-drop, length-replicate, take-at, drop-at, take-append-le, drop-append-le, drop-drop, drop-more, set-at, take-append-drop, nil-from-length, replicate-more}
 use Rattle.std.specs.Joined.{joined}
 use Rattle.radio.specs.Layer.{Octets}
-use Rattle.radio.specs.Outlets.{laid-over, start}
+use Rattle.radio.specs.Outlets.{start}
 use Rattle.radio.specs.Bottoms.{written-at}
 use Rattle.radio.specs.Bits.{bits, number, bits-of, frame}
 use Rattle.radio.specs.Frames.{unframed, Framed, Bits-pin-octets}

@@ -1,14 +1,14 @@
 -- What follows from what every outlet means. Assumes nothing.
 use mathlib.Core.Path.{_≡_, refl, sym, ap, _∙_, subst}
 use mathlib.Core.List.{List, [], _∷_, _++_, append-assoc}
-use mathlib.Core.Bool.{Bool, true, false, _&&_}
-use Prim.Native.Nat.{ℕ, _+_, _-_, _*_, _%_, _<_, _≤_, min}
+use mathlib.Core.Bool.{Bool, true, false}
+use Prim.Native.Nat.{ℕ, _+_, _%_, _<_, _≤_, min}
 use native.Mathlib.Nat.{mod-eq-of-lt}
 use native.Mathlib.Omega.{arith}
 use borrow.Author.Tests.{leb-true, leb-false, le-leb, lt-leb, ne-eqb}
 use lib.Dec.{leb, eqb}
 use lib.ListN.{length, take, drop, getD}
-use Rattle.std.proofs.shelf.Lists.{append-nil, length-append, drop-drop, drop-at, drop-append-le, length-take-le, take-more}
+use Rattle.std.proofs.shelf.Lists.{append-nil, length-append, drop-drop, drop-at, take-more}
 use Rattle.std.proofs.shelf.Tests.{and-right}
 use Rattle.std.specs.Joined.{joined}
 use Rattle.std.specs.declared.option.Option.{Option}
@@ -19,7 +19,7 @@ use Rattle.refusal.specs.declared.Refusal.{Refusal}
 use Rattle.refusal.specs.declared.Refusal.the-variants.{Argument, Turn as Out-of-turn, Uneven, Space}
 use Rattle.radio.specs.declared.turn.Turn.{Turn}
 use Rattle.radio.specs.declared.turn.Turn.the-variants.{Idle, Owing, Stuck}
-use Rattle.radio.specs.Layer.{Pile, unit-of, cost-of, sent-through}
+use Rattle.radio.specs.Layer.{Pile, unit-of, sent-through}
 use Rattle.radio.specs.Outlets.{State, Sound, Goes-on, Begun, Put, Ended, Written, Stored, message, unit, laid-over, answer, Leaves, unless, idle, a-preamble, even, out-of-form, begin-refusal, put-refusal, end-refusal, needed, start, stop, less}
 
 pub unit-positive : (ls : Pile) (u : ℕ) → 1 ≤ u → 1 ≤ unit-of ls u
@@ -58,9 +58,6 @@ module _ (p k : ℕ) (s : State) where
 
   pub form-no : (r : Refusal) → answer (out-of-form p k s None) ≡ Err r → (rest : Option Refusal) → out-of-form p k s rest ≡ Some r
   form-no = form-no-at (a-preamble p) (idle (s .turn)) (even k (unit s))
-
-  pub accepted : Ok tt ≡ answer (out-of-form p k s None) → needed p k s ≤ s .space → Ok tt ≡ answer (begin-refusal p k s)
-  accepted e h = ap answer (sym (form-ok (sym e) (unless (leb (needed p k s) (s .space)) Space None) ∙ ap (λ b. unless b Space None) (le-leb (needed p k s) (s .space) h)))
 
   pub no-space : Ok tt ≡ answer (out-of-form p k s None) → s .space < needed p k s → Err Space ≡ answer (begin-refusal p k s)
   no-space e h = ap answer (sym (form-ok (sym e) (unless (leb (needed p k s) (s .space)) Space None) ∙ ap (λ b. unless b Space None) (lt-leb (needed p k s) (s .space) h)))

@@ -1,6 +1,6 @@
 ghost use mathlib.Core.Path.{_≡_};
 ghost use mathlib.Core.List.{[], _∷_};
-ghost use Prim.Native.Nat.{ℕ, min, _≤_};
+ghost use Prim.Native.Nat.{min, _≤_};
 ghost use Rattle.std.specs.declared.option.Option.the-variants.{None};
 ghost use Rattle.std.specs.declared.result.Result.the-variants.{Ok};
 ghost use Rattle.radio.specs.Outlets.{State, Sound, unit, answer, out-of-form, begin-refusal, put-refusal, end-refusal, Leaves, Begun, Put, Ended};

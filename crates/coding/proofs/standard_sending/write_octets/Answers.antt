@@ -1,9 +1,7 @@
 use mathlib.Core.Path.{_≡_, refl, sym, ap, _∙_, subst}
 use mathlib.Core.List.{List}
-use Prim.Native.Nat.{ℕ, _*_, _/_, min}
-use Rattle.std.specs.declared.result.Result.{Result}
+use Prim.Native.Nat.{ℕ, min}
 use Rattle.std.specs.declared.result.Result.the-variants.{Ok, Err}
-use Rattle.refusal.specs.declared.Refusal.{Refusal}
 use Rattle.radio.specs.declared.octet_outlet.OctetOutlet.{OctetOutlet}
 use Rattle.radio.specs.Outlets.{State, Stored}
 use Rattle.radio.specs.Bottoms.{fresh, one-cell, over-octets}

@@ -1,11 +1,10 @@
-use mathlib.Core.Path.{_≡_, refl, sym, ap, _∙_, subst}
-use Prim.Native.Nat.{ℕ, _-_}
+use mathlib.Core.Path.{_≡_, sym, ap, _∙_}
+use Prim.Native.Nat.{ℕ}
 use native.Mathlib.Omega.{arith}
-use borrow.Author.Needs.{needs}
 use lib.ListN.{length}
 use Rattle.std.specs.declared.result.Result.the-variants.{Ok}
 use Rattle.radio.specs.declared.turn.Turn.the-variants.{Owing}
-use Rattle.radio.specs.Outlets.{Put, Ended, Written, answer, put-refusal, end-refusal, less}
+use Rattle.radio.specs.Outlets.{Ended, Written, answer, put-refusal, less}
 use Rattle.radio.proofs.States.{put-accepted, end-accepted, did-ok, leaves-ok, whole-message}
 use Rattle.radio.proofs.write.write_message.Needs as need
 

@@ -1,4 +1,3 @@
-use native.Mathlib.Omega.{arith}
 use borrow.Author.Needs.{needs}
 use Rattle.coding.proofs.Outgoing.{owed-le}
 use Rattle.coding.proofs.sending.half.turn_over.Needs as need

@@ -1,11 +1,8 @@
-use mathlib.Core.Path.{_≡_, refl, sym, ap, _∙_}
+use mathlib.Core.Path.{refl}
 use mathlib.Core.List.{[], _∷_}
 use Prim.Native.Nat.{_+_, _-_, _*_, _<_, _≤_}
 use lib.ListN.{length}
-use native.Mathlib.Omega.{arith}
 use borrow.Author.Needs.{needs}
-use Rattle.std.proofs.shelf.Lists.{append-nil}
-use Rattle.radio.specs.Bottoms.{written-at}
 use Rattle.radio.specs.Bits.{bits-of, frame}
 use Rattle.radio.specs.Frames.{unframed}
 use Rattle.radio.proofs.Cells.{bottom-put}

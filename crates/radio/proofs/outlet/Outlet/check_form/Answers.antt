@@ -1,9 +1,9 @@
-use mathlib.Core.Path.{_≡_, refl, sym, ap, _∙_}
+use mathlib.Core.Path.{_≡_, ap, _∙_}
 use mathlib.Core.Bool.{false}
-use Prim.Native.Nat.{ℕ, _%_, _≤_, min}
+use Prim.Native.Nat.{_%_, _≤_}
 use native.Mathlib.Omega.{arith}
 use borrow.Author.Needs.{needs}
-use Rattle.radio.specs.Outlets.{State, unit, even}
+use Rattle.radio.specs.Outlets.{unit, even}
 use Rattle.radio.proofs.States.{sound-unit, min-same, not-even}
 use Rattle.radio.proofs.outlet.Outlet.check_form.Needs as need
 

@@ -1,9 +1,8 @@
-use mathlib.Core.Path.{_≡_, refl, sym, ap, _∙_, subst}
+use mathlib.Core.Path.{_≡_, sym, ap, _∙_, subst}
 use mathlib.Core.List.{List, [], _∷_, _++_}
-use Prim.Native.Nat.{ℕ, _+_, _-_, _<_, _≤_, min}
+use Prim.Native.Nat.{ℕ, _+_, _-_, _<_, min}
 use lib.ListN.{length, take}
 use native.Mathlib.Omega.{arith}
-use borrow.Author.Needs.{needs}
 use Rattle.std.specs.declared.result.Result.the-variants.{Ok}
 use Rattle.radio.specs.declared.turn.Turn.the-variants.{Owing}
 use Rattle.radio.specs.Outlets.{Put, answer, put-refusal}

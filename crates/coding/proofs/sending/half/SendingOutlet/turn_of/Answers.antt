@@ -1,4 +1,4 @@
-use mathlib.Core.Path.{_≡_, refl, sym, ap, _∙_}
+use mathlib.Core.Path.{sym, ap, _∙_}
 use Prim.Native.Nat.{_-_, min}
 use Rattle.coding.specs.Outgoing.{turn-over}
 use Rattle.coding.proofs.Outgoing.{held-length}
