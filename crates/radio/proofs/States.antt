@@ -20,7 +20,7 @@ use Rattle.refusal.specs.declared.Refusal.the-variants.{Argument, Turn as Out-o
 use Rattle.radio.specs.declared.turn.Turn.{Turn}
 use Rattle.radio.specs.declared.turn.Turn.the-variants.{Idle, Owing, Stuck}
 use Rattle.radio.specs.Layer.{Pile, unit-of, sent-through}
-use Rattle.radio.specs.Outlets.{State, Sound, Goes-on, Begun, Put, Ended, Written, Stored, message, unit, laid-over, answer, Leaves, unless, idle, a-preamble, even, out-of-form, begin-refusal, put-refusal, end-refusal, needed, start, stop, less}
+use Rattle.radio.specs.Outlets.{State, Sound, Goes-on, Begun, Put, Ended, Written, Stored, Puts, Calls-write, message, unit, laid-over, answer, Leaves, unless, idle, a-preamble, even, out-of-form, begin-refusal, put-refusal, end-refusal, needed, start, stop, less}
 
 pub unit-positive : (ls : Pile) (u : ℕ) → 1 ≤ u → 1 ≤ unit-of ls u
 unit-positive [] u h = h
@@ -154,6 +154,13 @@ whole-message p xs s t u v ok b q e = record {
       ∙ append-assoc (s .channel) (start p) (sent-through (s .pile) xs ++ stop);
   goes-on = goes-further s t v (b .goes-on) (goes-further t u v (q .goes-on) (e .goes-on));
 }
+
+puts-all : (xs : List ℕ) (s t : State) → Sound t → Puts xs s t → Put xs s t
+puts-all [] s t h e = subst (λ (r : State). Put [] r t) (sym e) (put-none t h)
+puts-all (x ∷ xs) s t h p = put-further (x ∷ []) xs s (p .0) t (p .1 .0) (puts-all xs (p .0) t h (p .1 .1))
+
+pub calls-write : Calls-write
+calls-write p xs s t u v h b q e = whole-message p xs s t u v h b (puts-all xs t u h q) e
 
 answer-ok : (o : Option Refusal) → Ok tt ≡ answer o → o ≡ None
 answer-ok None e = refl

@@ -150,6 +150,15 @@ pub record Written (p : ℕ) (xs : List ℕ) (s t : State) : Type 0 where
   pub channel : t .channel ≡ s .channel ++ message (s .pile) p xs
   pub goes-on : Goes-on s t
 
+-- these octets put one by one
+abbrev pub Puts : List ℕ → State → State → Type 0
+Puts [] s t = s ≡ t
+Puts (x ∷ xs) s t = (m : State) × (Put (x ∷ []) s m × Puts xs m t)
+
+-- whoever makes the calls: an accepted begin, as many puts as it named, and the end write the whole message
+abbrev pub Calls-write : Type 0
+Calls-write = (p : ℕ) (xs : List ℕ) (s t u v : State) → Sound u → Begun p (length xs) s t → Puts xs t u → Ended u v → Written p xs s v
+
 -- one whole message written into the memory of an outlet that had written nothing: the answer is the space left or the refusal, and these are the cells afterwards
 abbrev pub Stored : ℕ → List ℕ → State → Result ℕ Refusal → List ℕ → Type 0
 Stored p xs s (Ok n) after = (begin-refusal p (length xs) s ≡ None) × (n ≡ s .space - needed p (length xs) s) × (after ≡ laid-over (s .cells) (message (s .pile) p xs) (s .memory))

@@ -1,6 +1,6 @@
 ghost use mathlib.Core.Path.{_≡_};
 ghost use lib.ListN.{length};
-ghost use Rattle.radio.specs.Outlets.{answer, begin-refusal, put-refusal, Leaves, Put, Written};
+ghost use Rattle.radio.specs.Outlets.{answer, begin-refusal, put-refusal, Leaves, Put, Written, Calls-write};
 use crate::outlet::Outlet;
 use crate::turn::Turn;
 use refusal::Refusal;
@@ -28,4 +28,11 @@ pub fn write_message<O: Outlet>(outlet: &mut O, preamble: u16, octets: &[u8]) ->
     outlet.begin(preamble, octets.len())?;
     put_all(outlet, octets)?;
     outlet.end()
+}
+
+/// That an accepted begin, all puts and the end write one whole message, whoever makes the calls.
+pub fn calls_write() -> u8
+    ensures { λ _. ⌜ Calls-write ⌝ }
+{
+    0
 }
