@@ -1,3 +1,4 @@
 pub mod Taking
 pub mod Halves
 pub mod Outgoing
+pub mod Returns

@@ -11,3 +11,4 @@ pub mod BlockLaws
 pub mod Standard
 pub mod Statements
 pub mod Outgoing
+pub mod RoundTrip

@@ -8,6 +8,7 @@ ghost use Rattle.radio.specs.Bits.{bits-of, frame};
 ghost use Rattle.coding.specs.ManchesterLaws.{manchester};
 ghost use Rattle.coding.specs.BlockLaws.{block};
 ghost use Rattle.coding.specs.Outgoing.{outgoing, standard-over};
+ghost use Rattle.coding.specs.RoundTrip.{Octets-come-back};
 use crate::block::Block;
 use crate::block::BlockCoding;
 use crate::manchester::Manchester;
@@ -63,4 +64,11 @@ pub fn write_bits(memory: Vec<u8>, preamble: u16, octets: &[u8]) -> (Result<u32,
         Ok(()) => (Ok(space), memory),
         Err(refusal) => (Err(refusal), memory),
     }
+}
+
+/// That an octet line, read through the standard pile, gives back what was written through it into octets.
+pub fn octets_come_back() -> u8
+    ensures { λ _. ⌜ Octets-come-back ⌝ }
+{
+    0
 }
