@@ -1,1 +1,3 @@
 pub mod Halves
+pub mod Outgoing
+pub mod Returns

@@ -10,3 +10,5 @@ pub mod Block
 pub mod BlockLaws
 pub mod Standard
 pub mod Statements
+pub mod Outgoing
+pub mod RoundTrip

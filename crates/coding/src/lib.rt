@@ -9,7 +9,9 @@ mod gather;
 pub mod laws;
 pub mod manchester;
 pub mod reading;
+pub mod sending;
 pub mod standard;
+pub mod standard_sending;
 mod unit;
 
 /// A coding of octets, group by group.

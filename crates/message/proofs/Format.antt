@@ -150,7 +150,7 @@ module _ (k : ℕ) (d : Option ℕ) (s : ℕ) (p : List ℕ) (fields : Admissibl
       let h = top .size ∙ top .counts in
       let j : length m - head-length k - 2 ≡ length p = omega arith in
       let rest : drop (head-length k) m ≡ p ++ octets-of-word total =
-          ap (drop (head-length k)) apart ∙ drop-at (head k d s (length p)) (p ++ octets-of-word total) (head-length k) (sym (top .size)) in
+      ap (drop (head-length k)) apart ∙ drop-at (head k d s (length p)) (p ++ octets-of-word total) (head-length k) (sym (top .size)) in
       ap (λ i. take i (drop (head-length k) m)) j ∙ ap (take (length p)) rest ∙ take-at p (octets-of-word total) (length p) refl
 
   pub is-lawful : Lawful (message k d s p)
@@ -205,12 +205,12 @@ module _ (m : List ℕ) (n : ℕ) (l : Lawful m) where
       let d : destination m ≡ None = cond-false (eqb (kind m) 3) _ _ e in
       let s : source m ≡ word (at m 2) (at m 3) = cond-false (eqb (kind m) 3) _ _ e in
       let rest : address (destination m) ++ octets-of-word (source m) ≡ at m 2 ∷ at m 3 ∷ [] =
-          ap (λ x. address x ++ octets-of-word (source m)) d ∙ ap octets-of-word s ∙ octets-again (at m 2) (at m 3) (octet-at 3 (omega arith)) in
+      ap (λ x. address x ++ octets-of-word (source m)) d ∙ ap octets-of-word s ∙ octets-again (at m 2) (at m 3) (octet-at 3 (omega arith)) in
       record {
         header = subst (λ (x : Option ℕ). admits (kind m) x (source m) ≡ true) (sym d)
-          (and-from (leb (kind m) 2) (within 1 0xfffe (source m)) (le-leb (kind m) 2 (omega (arith, l .typed))) (within-from 1 0xfffe (source m) (l .from)));
+            (and-from (leb (kind m) 2) (within 1 0xfffe (source m)) (le-leb (kind m) 2 (omega (arith, l .typed))) (within-from 1 0xfffe (source m) (l .from)));
         head-is = λ number. ap (λ i. take i m) h ∙ first-four m (omega arith) ∙ ap (λ x. x ∷ kind m ∷ at m 2 ∷ at m 3 ∷ []) number
-          ∙ ap (λ ys. (length (address (destination m)) + n + 6) ∷ kind m ∷ ys) (sym rest);
+            ∙ ap (λ ys. (length (address (destination m)) + n + 6) ∷ kind m ∷ ys) (sym rest);
         size = h ∙ sym (ap (λ x. length (address x) + 4) d);
       }
 
@@ -221,16 +221,16 @@ module _ (m : List ℕ) (n : ℕ) (l : Lawful m) where
       let d : destination m ≡ Some (word (at m 2) (at m 3)) = cond-true (eqb (kind m) 3) _ _ e in
       let s : source m ≡ word (at m 4) (at m 5) = cond-true (eqb (kind m) 3) _ _ e in
       let rest : address (destination m) ++ octets-of-word (source m) ≡ at m 2 ∷ at m 3 ∷ at m 4 ∷ at m 5 ∷ [] =
-          ap (λ x. address x ++ octets-of-word (source m)) d
-          ∙ ap (λ ys. ys ++ octets-of-word (source m)) (octets-again (at m 2) (at m 3) (octet-at 3 (omega arith)))
-          ∙ ap (λ ys. at m 2 ∷ at m 3 ∷ ys) (ap octets-of-word s ∙ octets-again (at m 4) (at m 5) (octet-at 5 (omega arith))) in
+      ap (λ x. address x ++ octets-of-word (source m)) d
+      ∙ ap (λ ys. ys ++ octets-of-word (source m)) (octets-again (at m 2) (at m 3) (octet-at 3 (omega arith)))
+      ∙ ap (λ ys. at m 2 ∷ at m 3 ∷ ys) (ap octets-of-word s ∙ octets-again (at m 4) (at m 5) (octet-at 5 (omega arith))) in
       let to : Addressed (Some (word (at m 2) (at m 3))) = subst Addressed d (l .to) in
       record {
         header = subst (λ (x : Option ℕ). admits (kind m) x (source m) ≡ true) (sym d)
-          (and-from (eqb (kind m) 3) (within 1 0xffff (word (at m 2) (at m 3)) && within 1 0xfffe (source m)) e
-          (and-from (within 1 0xffff (word (at m 2) (at m 3))) (within 1 0xfffe (source m)) (within-from 1 0xffff (word (at m 2) (at m 3)) to) (within-from 1 0xfffe (source m) (l .from))));
+            (and-from (eqb (kind m) 3) (within 1 0xffff (word (at m 2) (at m 3)) && within 1 0xfffe (source m)) e
+            (and-from (within 1 0xffff (word (at m 2) (at m 3))) (within 1 0xfffe (source m)) (within-from 1 0xffff (word (at m 2) (at m 3)) to) (within-from 1 0xfffe (source m) (l .from))));
         head-is = λ number. ap (λ i. take i m) h ∙ next-two m (omega arith) ∙ ap (λ x. x ∷ kind m ∷ at m 2 ∷ at m 3 ∷ at m 4 ∷ at m 5 ∷ []) number
-          ∙ ap (λ ys. (length (address (destination m)) + n + 6) ∷ kind m ∷ ys) (sym rest);
+            ∙ ap (λ ys. (length (address (destination m)) + n + 6) ∷ kind m ∷ ys) (sym rest);
         size = h ∙ sym (ap (λ x. length (address x) + 4) d);
       }
 

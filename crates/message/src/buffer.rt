@@ -19,7 +19,10 @@ impl<const N: usize> Buffer<N> {
         ensures holds { λ r. ⌜ take (r .count) (r .octets) ≡ [] ⌝ }
         ensures count { λ r. ⌜ r .count ≡ 0 ⌝ }
     {
-        Buffer { octets: [0; N], count: 0 }
+        Buffer {
+            octets: [0; N],
+            count: 0,
+        }
     }
 
     pub(crate) fn as_slice(&self) -> &[u8]

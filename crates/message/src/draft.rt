@@ -25,7 +25,10 @@ impl Draft {
         ensures header { λ r. ⌜ r .header ≡ header ⌝ }
         ensures empty { λ r. ⌜ items (r .payload) ≡ [] ⌝ }
     {
-        Draft { header, payload: Buffer::empty() }
+        Draft {
+            header,
+            payload: Buffer::empty(),
+        }
     }
 
     /// Adds all of the octets to the payload, or none of them (`Long`) where it would pass 66.
@@ -33,7 +36,11 @@ impl Draft {
         ensures header { λ r. ⌜ now (self .exit) .header ≡ now (self .entry) .header ⌝ }
         ensures cases { λ r. ⌜ Cases r (λ _. (now (self .entry) .payload .count + length (now (octets .entry)) ≤ 66) × (items (now (self .exit) .payload) ≡ items (now (self .entry) .payload) ++ now (octets .entry))) (λ e. (66 < now (self .entry) .payload .count + length (now (octets .entry))) × (e ≡ Long) × (now (self .exit) ≡ now (self .entry))) ⌝ }
     {
-        if self.payload.append(octets) { Ok(()) } else { Err(Refusal::Long) }
+        if self.payload.append(octets) {
+            Ok(())
+        } else {
+            Err(Refusal::Long)
+        }
     }
 
     /// The message of the header and the payload, with Number and Sum to match; it is lawful, as the format's

@@ -37,7 +37,11 @@ impl Header {
                 }
             }
         }
-        Ok(Header { kind, destination, source })
+        Ok(Header {
+            kind,
+            destination,
+            source,
+        })
     }
 
     /// Number, Type, Destination and Source of a message whose payload has `length` octets.

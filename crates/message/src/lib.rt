@@ -6,6 +6,5 @@ pub mod draft;
 pub mod header;
 pub mod sealed;
 pub mod sum;
-
 #[cfg(test)]
 mod tests;

@@ -1,6 +1,9 @@
-pub mod Honesty
 pub mod AtBottom
-pub mod OctetSteps
-pub mod LowBits
 pub mod BitSteps
+pub mod Cells
+pub mod Frames
+pub mod Honesty
+pub mod LowBits
+pub mod OctetSteps
+pub mod States
 pub mod Taking

@@ -7,3 +7,6 @@ pub mod HeardOctets
 pub mod Bits
 pub mod HeardBits
 pub mod Looks
+pub mod Outlets
+pub mod Bottoms
+pub mod Frames

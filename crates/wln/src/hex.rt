@@ -3,9 +3,9 @@ ghost use Prim.Native.Nat.{_<_};
 ghost use Rattle.std.specs.Options.{Cases};
 ghost use Rattle.wln.specs.Figures.{digit-value, octet-value};
 use crate::stop::Stop;
-use std::alloc::Global;
 use crate::stop::StopFromAlloc;
 use crate::stop::StopFromRefused;
+use std::alloc::Global;
 
 const DIGITS: [u8; 16] = *b"0123456789ABCDEF";
 

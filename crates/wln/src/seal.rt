@@ -2,6 +2,7 @@ use crate::hex::address;
 use crate::hex::octets;
 use crate::hex::push_octets;
 use crate::stop::Stop;
+use crate::stop::StopFromAlloc;
 use crate::words::Words;
 use message::draft::Draft;
 use message::header::Header;
@@ -9,7 +10,6 @@ use message::sealed::Sealed;
 use refusal::Refusal;
 use refusal::RefusalDisplay;
 use std::alloc::Global;
-use crate::stop::StopFromAlloc;
 
 /// `seal KIND SOURCE DESTINATION PAYLOAD`: `sealed HEX`, or `refused N NAME`.
 pub fn seal(heap: Global, words: &mut Words<'_>, out: &mut String) -> Result<(), Stop> {
@@ -36,7 +36,12 @@ pub fn push_refusal(heap: Global, out: &mut String, refusal: Refusal) -> Result<
 }
 
 /// A draft of the checked header, with the payload added, sealed.
-fn sealed(kind: u8, source: u16, destination: Option<u16>, payload: &[u8]) -> Result<Sealed, Refusal> {
+fn sealed(
+    kind: u8,
+    source: u16,
+    destination: Option<u16>,
+    payload: &[u8],
+) -> Result<Sealed, Refusal> {
     let header = Header::new(kind, destination, source)?;
     let mut draft = Draft::new(header);
     draft.add(payload)?;

@@ -39,7 +39,11 @@ impl<'a> Words<'a> {
         let from = find(line, 0, false);
         let to = find(line, from, true);
         self.rest = &line[to..];
-        if from == to { None } else { Some(&line[from..to]) }
+        if from == to {
+            None
+        } else {
+            Some(&line[from..to])
+        }
     }
 
     /// The next word, which has to be there.

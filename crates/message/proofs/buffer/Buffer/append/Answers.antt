@@ -17,11 +17,12 @@ loop-i-again g c =
     let x = getD more i 0 in
     let inv = c .loop-i .inv in
     let within : i < length more = search needs in
-    let room : n + i < length now = omega (arith, inv .2) in
-    ( ap (λ k. take k (set now (n + i) x)) (omega arith) ∙ take-more-set now (n + i) x room ∙ ap (λ ys. ys ++ (x ∷ [])) (inv .0)
-        ∙ append-assoc _ (take i more) (x ∷ []) ∙ ap (λ ys. take n (c .args .self .now .octets) ++ ys) (sym (take-more more i 0 within))
-    , inv .1
-    , length-set now (n + i) x ∙ inv .2 )
+    let room : n + i < length now = omega (arith, inv .2) in (
+      ap (λ k. take k (set now (n + i) x)) (omega arith) ∙ take-more-set now (n + i) x room ∙ ap (λ ys. ys ++ (x ∷ [])) (inv .0)
+          ∙ append-assoc _ (take i more) (x ∷ []) ∙ ap (λ ys. take n (c .args .self .now .octets) ++ ys) (sym (take-more more i 0 within)),
+      inv .1,
+      length-set now (n + i) x ∙ inv .2,
+    )
 
 pub returns : need.returns
 returns g c =
@@ -33,5 +34,5 @@ returns g c =
       fits = le-true _ _ (omega (arith, c .if-more-self .left, c .args .self .now .within));
       same = λ e. absurd (clash (sym e));
       holds = ap (λ k. take (c .args .self .now .count + k) (c .loop-i .self .octets)) all ∙ c .loop-i .inv .0
-        ∙ ap (λ ys. take (c .args .self .now .count) (c .args .self .now .octets) ++ ys) (take-all i more done);
+          ∙ ap (λ ys. take (c .args .self .now .count) (c .args .self .now .octets) ++ ys) (take-all i more done);
     }

@@ -34,7 +34,7 @@ made c =
     let b₂ = c .append-2 .last .self in
     let given : c .as-slice-payload .result .now ≡ p = c .as-slice-payload .ensures in
     let top : items (c .head-head .result) ≡ head (h .kind) (h .destination) (h .source) (length p) =
-        c .head-head .ensures ∙ ap (λ xs. head (h .kind) (h .destination) (h .source) (length xs)) given in
+    c .head-head .ensures ∙ ap (λ xs. head (h .kind) (h .destination) (h .source) (length xs)) given in
     sealed-is (h .kind) (h .destination) (h .source) p (fields c)
     (c .as-slice .result .now) (items b₀) (items b₁) (items b₂) (items (c .append-3 .last .self)) (c .to-be-bytes .result) (c .append .result) (c .append-2 .result) (c .append-3 .result) (c .checksum-sum .result)
     (c .as-slice .ensures ∙ top) (c .empty-octets .ensures .holds)
