@@ -266,7 +266,7 @@ module _ (own : ℕ) (f : Filters) (strength : ℕ) (m : List ℕ) where
       ∙ ap (λ x. then-check (require x Muted (Ok tt)) (λ _. Ok m)) (not-from-false c (q .1))
 
 -- at units up to 24 a message takes up 96 octets at most
-at-most : (u n : ℕ) → 1 ≤ u → u ≤ 24 → n ≤ 74 → rounded u n ≤ 96
+pub at-most : (u n : ℕ) → 1 ≤ u → u ≤ 24 → n ≤ 74 → rounded u n ≤ 96
 at-most u n l a b = by (cases-eq u 24) (cases-eq n 74)
   where
     below : rounded u n < n + u

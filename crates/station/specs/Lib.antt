@@ -4,3 +4,4 @@ pub mod Judging
 pub mod Counting
 pub mod Receiving
 pub mod Exactness
+pub mod Sending

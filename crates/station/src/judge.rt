@@ -7,8 +7,8 @@ ghost use Rattle.std.specs.declared.result.Result.the-variants.{Ok, Err};
 ghost use Rattle.refusal.specs.declared.Refusal.the-variants.{Spoiled as Spoilt};
 ghost use Rattle.station.specs.Judging.{require, few-spoiled, one-spoiled, spoiled-place, number, blank, filled, mended, summed};
 ghost use Rattle.station.specs.Counting.{Counted};
-ghost use Rattle.station.specs.Nearness.{rounded};
 use crate::mend::mend;
+use crate::rounding::round_up;
 use radio::symbol::Symbol;
 use refusal::Refusal;
 
@@ -56,15 +56,6 @@ fn number_of(symbols: &[Symbol]) -> usize
         [Symbol::Clean(value), ..] => *value as usize,
         _ => 0,
     }
-}
-
-/// The least multiple of `unit` that is not below `count`.
-fn round_up(unit: usize, count: usize) -> usize
-    requires { ⌜ (1 ≤ unit) × (unit ≤ 24) × (count ≤ 255) ⌝ }
-    ensures value { λ r. ⌜ r ≡ rounded unit count ⌝ }
-    ensures least { λ r. ⌜ count ≤ r ⌝ }
-{
-    unit * ((count + unit - 1) / unit)
 }
 
 /// The place of the first spoiled symbol; the count where none is spoiled.

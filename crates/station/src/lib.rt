@@ -6,4 +6,6 @@ pub mod filters;
 mod judge;
 mod mend;
 mod receive;
+mod rounding;
+pub mod send;
 pub mod station;
