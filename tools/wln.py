@@ -2,6 +2,7 @@
 """Answers the commands of wln on standard input, as the other coder: python3 tools/wln.py < crates/wln/stdin"""
 import sys
 
+import bodies as payloads
 import message_format as fmt
 
 
@@ -58,7 +59,13 @@ def seal(words):
     return [fmt.refused(answer) if isinstance(answer, int) else "sealed " + fmt.hexes(answer)]
 
 
-COMMANDS = {"seal": seal}
+def bodies(words):
+    payload = hex_octets(want(words, "PAYLOAD"))
+    end(words)
+    return payloads.answer(bytes(payload))
+
+
+COMMANDS = {"seal": seal, "bodies": bodies}
 
 
 def answer(line):

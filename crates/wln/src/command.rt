@@ -1,3 +1,4 @@
+use crate::bodies::bodies;
 use crate::seal::seal;
 use crate::stop::Stop;
 use crate::words::Words;
@@ -14,6 +15,9 @@ pub fn obey(heap: Global, line: &[u8], out: &mut String) -> Result<(), Stop> {
     }
     if first == b"seal" {
         return seal(heap, &mut words, out);
+    }
+    if first == b"bodies" {
+        return bodies(heap, &mut words, out);
     }
     Err(Stop::Unread("no such command"))
 }

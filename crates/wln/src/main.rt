@@ -1,5 +1,8 @@
 //! wln: reads commands from standard input, one to a line, and prints what was done.
+mod bodies;
+mod body_lines;
 mod command;
+mod decimal;
 mod hex;
 mod seal;
 mod stop;
