@@ -11,6 +11,12 @@ trap 'rm -rf "$made"' EXIT
     cat tools/story.txt
     echo "# Every rule of a payload, its ends, and random octets."
     python3 tools/bodies_cases.py
+    echo "# The two lines: signs, ends and cuts at every place, static, and the 65,536-byte edge."
+    python3 tools/lines_cases.py stored
+    echo "# The same recordings under the standard pile."
+    python3 tools/lines_cases.py short | sed 's/ plain / standard /'
+    echo "# Coded messages: whole, spoiled, wrong, torn, cut and dry."
+    python3 tools/standard_cases.py
 } > "$made/stdin"
 python3 tools/wln.py < "$made/stdin" > "$made/stdout"
 

@@ -3,6 +3,8 @@
 import sys
 
 import bodies as payloads
+import ears
+import layers
 import message_format as fmt
 
 
@@ -65,7 +67,36 @@ def bodies(words):
     return payloads.answer(bytes(payload))
 
 
-COMMANDS = {"seal": seal, "bodies": bodies}
+def one_of(word, names, text):
+    if word not in names:
+        raise Unread(text)
+    return word
+
+
+def receptions(line, pile, data):
+    """What is heard: for each reception its symbols, None for a spoiled one, and its ending, None for the whole end."""
+    heard = ears.octet_receptions(data) if line == "octets" else ears.bit_receptions(data)
+    for texts, ending in heard:
+        symbols = [None if text == "??" else int(text, 16) for text in texts]
+        reception = symbols, None if ending == "whole" else (ending, min(len(symbols), 65535), 0)
+        yield layers.decode_standard(reception) if pile == "standard" else reception
+
+
+def shown(symbols, ending):
+    text = "".join("??" if s is None else f"{s:02X}" for s in symbols) or "-"
+    return f"  {text} " + ("whole" if ending is None else "%s place %d rise %d" % ending)
+
+
+def hear(words):
+    line = one_of(want(words, "LINE"), ("octets", "bits"), "LINE is octets or bits")
+    pile = one_of(want(words, "PILE"), ("plain", "standard"), "PILE is plain or standard")
+    data = bytes(hex_octets(want(words, "BYTES")))
+    end(words)
+    lines = [shown(*reception) for reception in receptions(line, pile, data)]
+    return [f"heard {len(lines)}"] + lines
+
+
+COMMANDS = {"seal": seal, "bodies": bodies, "hear": hear}
 
 
 def answer(line):

@@ -3,6 +3,7 @@ ghost use Prim.Native.Nat.{_<_};
 ghost use Rattle.std.specs.Options.{Cases};
 ghost use Rattle.wln.specs.Figures.{digit-value, octet-value};
 use crate::stop::Stop;
+use std::alloc::AllocError;
 use std::alloc::Global;
 use crate::stop::StopFromAlloc;
 use crate::stop::StopFromRefused;
@@ -60,13 +61,18 @@ pub fn address(word: &[u8]) -> Option<u16> {
 }
 
 /// Adds octets in capital hex, or `-` where there are none.
-pub fn push_octets(out: &mut String, octets: &[u8]) -> Result<(), Stop> {
+pub fn push_octets(out: &mut String, octets: &[u8]) -> Result<(), AllocError> {
     if octets.is_empty() {
         out.push('-')?;
     }
     for x in octets {
-        out.push(DIGITS[(*x / 16) as usize] as char)?;
-        out.push(DIGITS[(*x % 16) as usize] as char)?;
+        push_octet(out, *x)?;
     }
     Ok(())
+}
+
+/// Adds an octet as two capital hex digits.
+pub fn push_octet(out: &mut String, octet: u8) -> Result<(), AllocError> {
+    out.push(DIGITS[(octet / 16) as usize] as char)?;
+    out.push(DIGITS[(octet % 16) as usize] as char)
 }
