@@ -1,4 +1,5 @@
 use crate::hex::address;
+use crate::hex::is_dash;
 use crate::hex::octets;
 use crate::hex::push_octets;
 use crate::stop::Stop;
@@ -45,7 +46,7 @@ fn sealed(kind: u8, source: u16, destination: Option<u16>, payload: &[u8]) -> Re
 
 fn kind_of(word: &[u8]) -> Result<u8, Stop> {
     match crate::words::number(word, 255) {
-        Some(n) => Ok((n & 0xff) as u8),
+        Some(n) => Ok(n as u8),
         None => Err(Stop::Unread("KIND is a number up to 255")),
     }
 }
@@ -58,7 +59,7 @@ fn source_of(word: &[u8]) -> Result<u16, Stop> {
 }
 
 fn destination_of(word: &[u8]) -> Result<Option<u16>, Stop> {
-    if word == b"-" {
+    if is_dash(word) {
         return Ok(None);
     }
     match address(word) {
