@@ -15,10 +15,10 @@ class Unread(Exception):
 def hex_octets(word):
     if word == "-":
         return []
+    if any(c not in "0123456789abcdefABCDEF" for c in word[:len(word) // 2 * 2]):
+        raise Unread("octets are hex digits without blanks, or - for none")
     if len(word) % 2:
         raise Unread("an octet has two hex digits")
-    if any(c not in "0123456789abcdefABCDEF" for c in word):
-        raise Unread("octets are hex digits without blanks, or - for none")
     return list(bytes.fromhex(word))
 
 

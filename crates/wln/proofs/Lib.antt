@@ -1,3 +1,4 @@
+mod Decimals
 mod Hexes
 mod Lines
-mod Decimals
+mod Sealings

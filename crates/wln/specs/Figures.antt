@@ -47,6 +47,14 @@ pairs-value (a ∷ b ∷ rest) = before (octet-value a b) (pairs-value rest)
 abbrev pub dash : List ℕ → Bool
 dash xs = eqb (length xs) 1 && eqb (getD xs 0 0) 45
 
+-- `-` for no destination, else an address
+abbrev pub some-address : Option ℕ → Option (Option ℕ)
+some-address None = None
+some-address (Some a) = Some (Some a)
+
+abbrev pub destination-word : List ℕ → Option (Option ℕ)
+destination-word xs = cond (dash xs) (Some None) (some-address (address-word xs))
+
 -- a string of octets: `-` for none, else digits two by two
 abbrev pub octets-value : List ℕ → Option (List ℕ)
 octets-value xs = cond (dash xs) (Some []) (pairs-value xs)

@@ -2,10 +2,10 @@ use crate::body_lines::push_bodies;
 use crate::hex::octets;
 use crate::seal::push_refusal;
 use crate::stop::Stop;
+use crate::stop::StopFromAlloc;
 use crate::words::Words;
 use message::bodies::Bodies;
 use std::alloc::Global;
-use crate::stop::StopFromAlloc;
 
 /// `bodies PAYLOAD`: `bodies N` with a line for each body below it, or `refused N NAME`.
 pub fn bodies(heap: Global, words: &mut Words<'_>, out: &mut String) -> Result<(), Stop> {

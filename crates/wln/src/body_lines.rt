@@ -1,13 +1,13 @@
 //! What is printed of the bodies of a payload: a line for each, with its position.
 use crate::decimal::Decimal;
 use crate::stop::Stop;
+use crate::stop::StopFromAlloc;
 use message::bodies::Bodies;
 use message::bodies::BodiesIterator;
 use message::body::Body;
 use message::body::Placed;
 use std::alloc::AllocError;
 use std::alloc::Global;
-use crate::stop::StopFromAlloc;
 
 /// Adds a line for each body.
 pub fn push_bodies(heap: Global, out: &mut String, bodies: Bodies<'_>) -> Result<(), Stop> {

@@ -8,7 +8,12 @@ use radio::line::Line;
 use std::alloc::Global;
 
 /// Does what one line of input says, adds what is printed for it, and hands back the recording that a `hear` brings.
-pub fn obey<L: Line>(heap: Global, text: &[u8], _line: &mut L, out: &mut String) -> Result<Option<Recording>, Stop> {
+pub fn obey<L: Line>(
+    heap: Global,
+    text: &[u8],
+    _line: &mut L,
+    out: &mut String,
+) -> Result<Option<Recording>, Stop> {
     let mut words = Words::of(text);
     let Some(first) = words.take() else {
         return Ok(None);

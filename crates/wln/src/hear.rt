@@ -1,3 +1,9 @@
+ghost use mathlib.Core.Path.{_≡_};
+ghost use Rattle.std.specs.Results.{Cases as Answers};
+ghost use Rattle.wln.specs.Names.{bottom-name, pile-name};
+ghost use Rattle.wln.specs.Stops.{Where-unread};
+ghost use Rattle.wln.specs.declared.recording.Bottom.{Bottom as Bottom-kind};
+ghost use Rattle.wln.specs.declared.recording.Pile.{Pile as Pile-kind};
 use crate::hex::octets;
 use crate::recording::Bottom;
 use crate::recording::Pile;
@@ -19,7 +25,9 @@ pub fn hear(heap: Global, words: &mut Words<'_>) -> Result<Recording, Stop> {
     })
 }
 
-fn bottom_of(word: &[u8]) -> Result<Bottom, Stop> {
+fn bottom_of(word: &[u8]) -> Result<Bottom, Stop>
+    ensures { λ r. ⌜ Answers r (λ b. now (word .entry) ≡ bottom-name b) (λ stop. Where-unread stop ((b : Bottom-kind) → now (word .entry) ≡ bottom-name b → ⊥)) ⌝ }
+{
     if word == b"octets" {
         return Ok(Bottom::Octets);
     }
@@ -29,7 +37,9 @@ fn bottom_of(word: &[u8]) -> Result<Bottom, Stop> {
     Err(Stop::Unread("LINE is octets or bits"))
 }
 
-fn pile_of(word: &[u8]) -> Result<Pile, Stop> {
+fn pile_of(word: &[u8]) -> Result<Pile, Stop>
+    ensures { λ r. ⌜ Answers r (λ p. now (word .entry) ≡ pile-name p) (λ stop. Where-unread stop ((p : Pile-kind) → now (word .entry) ≡ pile-name p → ⊥)) ⌝ }
+{
     if word == b"plain" {
         return Ok(Pile::Plain);
     }

@@ -7,10 +7,10 @@ ghost use Rattle.std.specs.declared.option.Option.the-variants.{Some, None};
 ghost use Rattle.wln.specs.Figures.{digit-value, octet-value, pairs-value, octets-value, dash, address-word};
 ghost use Rattle.wln.specs.Stops.{Where-unread};
 use crate::stop::Stop;
-use std::alloc::AllocError;
-use std::alloc::Global;
 use crate::stop::StopFromAlloc;
 use crate::stop::StopFromRefused;
+use std::alloc::AllocError;
+use std::alloc::Global;
 
 const DIGITS: [u8; 16] = *b"0123456789ABCDEF";
 

@@ -23,7 +23,11 @@ use std::io;
 pub fn play(console: &mut Console, recording: &Recording) -> io::Result<Option<Recording>> {
     let bytes = recording.bytes.as_slice();
     match (recording.bottom, recording.pile) {
-        (Bottom::Octets, Pile::Plain) => on_line(console, OctetLine::new(bytes), OctetLine::new(bytes)),
+        (Bottom::Octets, Pile::Plain) => on_line(
+            console,
+            OctetLine::new(bytes),
+            OctetLine::new(bytes),
+        ),
         (Bottom::Bits, Pile::Plain) => on_line(console, BitLine::new(bytes), BitLine::new(bytes)),
         (Bottom::Octets, Pile::Standard) => on_line(
             console,
@@ -39,7 +43,11 @@ pub fn play(console: &mut Console, recording: &Recording) -> io::Result<Option<R
 }
 
 /// Lists all that `heard` holds; `line`, over the same bytes, stays for the commands.
-fn on_line<L: Line + Drop>(console: &mut Console, heard: L, line: L) -> io::Result<Option<Recording>> {
+fn on_line<L: Line + Drop>(
+    console: &mut Console,
+    heard: L,
+    line: L,
+) -> io::Result<Option<Recording>> {
     let text = listing(console.heap(), heard)?;
     console.print(text.as_str())?;
     commands(console, line)
@@ -47,7 +55,10 @@ fn on_line<L: Line + Drop>(console: &mut Console, heard: L, line: L) -> io::Resu
 
 /// Does the commands up to the next recording, which it hands back, or to the end of the input. Nothing says that an
 /// input ends, so the turns are counted.
-pub fn commands<L: Line + Drop>(console: &mut Console, mut line: L) -> io::Result<Option<Recording>> {
+pub fn commands<L: Line + Drop>(
+    console: &mut Console,
+    mut line: L,
+) -> io::Result<Option<Recording>> {
     let heap = console.heap();
     for _ in 0..u64::MAX {
         let Some(text) = console.read()? else {
@@ -63,7 +74,11 @@ pub fn commands<L: Line + Drop>(console: &mut Console, mut line: L) -> io::Resul
 }
 
 /// What is printed for one line of input, nothing for a blank line and for a comment, and the recording that it brought.
-fn answer<L: Line>(heap: Global, text: &[u8], line: &mut L) -> Result<(String, Option<Recording>), AllocError> {
+fn answer<L: Line>(
+    heap: Global,
+    text: &[u8],
+    line: &mut L,
+) -> Result<(String, Option<Recording>), AllocError> {
     let mut out = String::new(heap);
     match obey(heap, text, line, &mut out) {
         Ok(recording) => Ok((out, recording)),

@@ -3,6 +3,9 @@ ghost use mathlib.Core.Path.{_≡_};
 ghost use Prim.Native.Nat.{_<_, _≤_};
 ghost use lib.ListN.{length};
 ghost use Rattle.std.specs.Options.{Cases};
+ghost use Rattle.std.specs.Results.{Cases as Answers};
+ghost use Rattle.wln.specs.declared.stop.Stop.the-variants.{Unread};
+ghost use Rattle.wln.specs.Stops.{Where-unread};
 ghost use Rattle.wln.specs.Figures.{between, number-value};
 ghost use Rattle.wln.specs.Words.{blank, from-word, before-blank, first-word, behind-word};
 use crate::stop::Stop;
@@ -63,7 +66,10 @@ impl<'a> Words<'a> {
     }
 
     /// The next word, which has to be there.
-    pub fn want(&mut self, missing: &'static str) -> Result<&'a [u8], Stop> {
+    pub fn want(&mut self, missing: &'static str) -> Result<&'a [u8], Stop>
+        ensures word { λ r. ⌜ Answers r (λ word. (0 < length (now word)) × (now word ≡ first-word (now (now (self .entry) .rest)))) (λ stop. (first-word (now (now (self .entry) .rest)) ≡ []) × (stop ≡ Unread (missing .entry))) ⌝ }
+        ensures left { λ _. ⌜ now (now (self .exit) .rest) ≡ behind-word (now (now (self .entry) .rest)) ⌝ }
+    {
         match self.take() {
             Some(word) => Ok(word),
             None => Err(Stop::Unread(missing)),
@@ -71,7 +77,9 @@ impl<'a> Words<'a> {
     }
 
     /// The end of the line, which has to come now.
-    pub fn end(&mut self) -> Result<(), Stop> {
+    pub fn end(&mut self) -> Result<(), Stop>
+        ensures { λ r. ⌜ Answers r (λ _. first-word (now (now (self .entry) .rest)) ≡ []) (λ stop. Where-unread stop (0 < length (first-word (now (now (self .entry) .rest))))) ⌝ }
+    {
         match self.take() {
             Some(_) => Err(Stop::Unread("too many words")),
             None => Ok(()),
