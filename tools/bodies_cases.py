@@ -147,4 +147,5 @@ def main():
             print("bodies", case.hex().upper() or "-")
 
 
-main()
+if __name__ == "__main__":
+    main()

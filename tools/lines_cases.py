@@ -1,7 +1,7 @@
 #!/usr/bin/env python3
 """Commands that try the two lines: one `hear` to a line, for ears.py and for the program alike.
 
-With the word `short` the recordings of more than 65,536 bytes are left out.
+With the word `short` the recordings of more than 65,536 bytes are left out, and with `stored` all but two of them.
 """
 import random
 import sys
@@ -96,6 +96,12 @@ def edge_cases():
         heard_bits("0" * (8 * LIMIT - heard) + SIGN + frames(0x41, 0x33))
 
 
+def stored_edges():
+    """One recording of each line that a sign, or the last bit of a 33, leaves at the 65,536-byte edge."""
+    octets("00" * (LIMIT - 4) + "F0 CC 41 F0 CC 33")
+    heard_bits("0" * (8 * LIMIT - 39) + SIGN + frames(0x41, 0x33))
+
+
 def static_cases():
     noise = random.Random(1946)
     for size in (1, 2, 3, 7, 40, 200, 1000):
@@ -112,5 +118,7 @@ if __name__ == "__main__":
     octet_cases()
     bit_cases()
     static_cases()
-    if sys.argv[1:] != ["short"]:
+    if sys.argv[1:] == ["stored"]:
+        stored_edges()
+    elif sys.argv[1:] != ["short"]:
         edge_cases()

@@ -2,6 +2,9 @@
 """Answers the commands of wln on standard input, as the other coder: python3 tools/wln.py < crates/wln/stdin"""
 import sys
 
+import bodies as payloads
+import ears
+import layers
 import message_format as fmt
 
 
@@ -12,10 +15,10 @@ class Unread(Exception):
 def hex_octets(word):
     if word == "-":
         return []
+    if any(c not in "0123456789abcdefABCDEF" for c in word[:len(word) // 2 * 2]):
+        raise Unread("octets are hex digits without blanks, or - for none")
     if len(word) % 2:
         raise Unread("an octet has two hex digits")
-    if any(c not in "0123456789abcdefABCDEF" for c in word):
-        raise Unread("octets are hex digits without blanks, or - for none")
     return list(bytes.fromhex(word))
 
 
@@ -58,7 +61,42 @@ def seal(words):
     return [fmt.refused(answer) if isinstance(answer, int) else "sealed " + fmt.hexes(answer)]
 
 
-COMMANDS = {"seal": seal}
+def bodies(words):
+    payload = hex_octets(want(words, "PAYLOAD"))
+    end(words)
+    return payloads.answer(bytes(payload))
+
+
+def one_of(word, names, text):
+    if word not in names:
+        raise Unread(text)
+    return word
+
+
+def receptions(line, pile, data):
+    """What is heard: for each reception its symbols, None for a spoiled one, and its ending, None for the whole end."""
+    heard = ears.octet_receptions(data) if line == "octets" else ears.bit_receptions(data)
+    for texts, ending in heard:
+        symbols = [None if text == "??" else int(text, 16) for text in texts]
+        reception = symbols, None if ending == "whole" else (ending, min(len(symbols), 65535), 0)
+        yield layers.decode_standard(reception) if pile == "standard" else reception
+
+
+def shown(symbols, ending):
+    text = "".join("??" if s is None else f"{s:02X}" for s in symbols) or "-"
+    return f"  {text} " + ("whole" if ending is None else "%s place %d rise %d" % ending)
+
+
+def hear(words):
+    line = one_of(want(words, "LINE"), ("octets", "bits"), "LINE is octets or bits")
+    pile = one_of(want(words, "PILE"), ("plain", "standard"), "PILE is plain or standard")
+    data = bytes(hex_octets(want(words, "BYTES")))
+    end(words)
+    lines = [shown(*reception) for reception in receptions(line, pile, data)]
+    return [f"heard {len(lines)}"] + lines
+
+
+COMMANDS = {"seal": seal, "bodies": bodies, "hear": hear}
 
 
 def answer(line):

@@ -64,15 +64,16 @@ fields-of m n e =
     let e₄ = goes-on (addresses-fit m) Address (Ok m) n e₃ in
     let k = passes (leb (kind m) 3) Type-octet r₂ n e₁ in
     let i = and-parts (leb (head-length (kind m) + 2) (length m)) (leb (length m) (head-length (kind m) + 2 + 66)) (passes (in-range m) Range r₃ n e₂) in
-    let a = and-parts (within 1 0xfffe (source m)) (addressed (destination m)) (passes (addresses-fit m) Address (Ok m) n e₃) in
-    ( (cc)
-    , record {
+    let a = and-parts (within 1 0xfffe (source m)) (addressed (destination m)) (passes (addresses-fit m) Address (Ok m) n e₃) in (
+      (cc),
+      record {
         typed = leb-true _ _ k;
         least = leb-true _ _ (i .0);
         most = leb-true _ _ (i .1);
         from = within-parts 1 0xfffe (source m) (a .0);
         to = decides-addressed (destination m) .0 (a .1);
-      } )
+      },
+    )
 
 fields-right : (m : List ℕ) → Lawful m → fields-checked m ≡ Ok m
 fields-right m l =
@@ -189,7 +190,7 @@ module _ (u : ℕ) (some : 1 ≤ u) (ss : List Symbol) (m : List ℕ) where
         let d = length-drop (number ss) ss in
         let zeros : length (drop (number ss) ss) ≡ rounded u (length m) - length m = d ∙ ap (λ k. k - number ss) (sym (steps .count)) ∙ ap (λ k. rounded u k - k) (sym long) in
         let back : Agree (drop (number ss) ss) (replicate (rounded u (length m) - length m) 0) =
-            subst (λ (k : ℕ). Agree (drop (number ss) ss) (replicate k 0)) zeros (agree-zeros (drop (number ss) ss) (steps .pad)) in
+        subst (λ (k : ℕ). Agree (drop (number ss) ss) (replicate k 0)) zeros (agree-zeros (drop (number ss) ss) (steps .pad)) in
         subst (λ (xs : List Symbol). Agree xs (padded u m)) (take-append-drop (number ss) ss)
         (agree-append (take (number ss) ss) (drop (number ss) ss) m (replicate (rounded u (length m) - length m) 0) front back)
 
@@ -202,12 +203,12 @@ module _ (u : ℕ) (some : 1 ≤ u) (ss : List Symbol) (m : List ℕ) where
       let least = rounded-least u n some .0 in
       let is : number ss ≡ n = number-agrees ss m (replicate k 0) (omega (arith, s .0)) a few ∙ l .number in
       let count : length ss ≡ rounded u n =
-          agree-length ss (padded u m) a ∙ length-append m (replicate k 0) ∙ ap (λ z. n + z) (length-replicate k 0) ∙ whole n (rounded u n) least in
+      agree-length ss (padded u m) a ∙ length-append m (replicate k 0) ∙ ap (λ z. n + z) (length-replicate k 0) ∙ whole n (rounded u n) least in
       let front : Agree (take n ss) m = subst (Agree (take n ss)) (take-at m (replicate k 0) n refl) (agree-take n ss (padded u m) a) in
       let back : Agree (drop n ss) (replicate k 0) = subst (Agree (drop n ss)) (drop-at m (replicate k 0) n refl) (agree-drop n ss (padded u m) a) in
       let one = few-part n ss few in
       let sum-is : summed u ss ≡ mended (take n ss) =
-          all-blank u ss n (sym is) few (s .0) (s .1) (sym count) (zeros-agree k (drop n ss) back) in
+      all-blank u ss n (sym is) few (s .0) (s .1) (sym count) (zeros-agree k (drop n ss) back) in
       ap (λ z. then-check z fields-checked) (sum-is ∙ worked (take n ss) front one l (s .0)) ∙ fields-right m l
     where
       whole : (n r : ℕ) → n ≤ r → n + (r - n) ≡ r
@@ -285,13 +286,14 @@ module _ (own strength u : ℕ) (f : Filters) (r : Reception) (m : List ℕ) (so
       let q = pass-parts own f strength x m (p .2) in
       let k = parts (collected r) (judged u) x (p .1) in
       let c = collected-parts r (k .0) (k .1) in
-      let j : judged u (r .symbols) ≡ Ok m = ap (judged u) (sym (c .0)) ∙ k .2 ∙ ap Ok (sym (q .0)) in
-      ( judged-lawful u some (r .symbols) m j
-      , record {
+      let j : judged u (r .symbols) ≡ Ok m = ap (judged u) (sym (c .0)) ∙ k .2 ∙ ap Ok (sym (q .0)) in (
+        judged-lawful u some (r .symbols) m j,
+        record {
           agrees = record { ended = c .1; agrees = judged-agrees u some (r .symbols) m j };
           few = few-marked (r .symbols) (few u some (r .symbols) m j);
-        }
-      , ap (withheld own f strength) (q .0) ∙ q .1 )
+        },
+        ap (withheld own f strength) (q .0) ∙ q .1,
+      )
 
   hands-up : Lawful m × Near u m r × (withheld own f strength m ≡ false) → received own f strength u r ≡ Ok m
   hands-up h =

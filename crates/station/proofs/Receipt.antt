@@ -49,16 +49,16 @@ module _ (u strength : ℕ) (p : Reception) (ss : List Symbol) (got : collected 
         let size : length (payload m) ≡ length m - h - 2 = length-take-le (length m - h - 2) (drop h m) (omega arith) in
         let count : f .length ≡ length m - h - 2 = ap (λ z. z .length) is ∙ size in
         let inside : drop h m ≡ take (n - h) (drop h octets) =
-            ap (λ i. drop h (take i octets)) (whole h n (omega (arith, r .0))) ∙ drop-take h (n - h) octets in
+        ap (λ i. drop h (take i octets)) (whole h n (omega (arith, r .0))) ∙ drop-take h (n - h) octets in
         record {
           n = n;
           message = so-far ∙ e;
           facts = is;
           part =
-            ap (λ i. take (f .length) (drop i octets)) hk
-            ∙ sym (take-take (f .length) (n - h) (drop h octets) (omega arith))
-            ∙ ap (take (f .length)) (sym inside)
-            ∙ ap (λ i. take i (drop h m)) count;
+              ap (λ i. take (f .length) (drop i octets)) hk
+              ∙ sym (take-take (f .length) (n - h) (drop h octets) (omega arith))
+              ∙ ap (take (f .length)) (sym inside)
+              ∙ ap (λ i. take i (drop h m)) count;
           within = omega (arith, r .0);
           short = omega (arith, r .1);
         }

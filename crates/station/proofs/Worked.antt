@@ -42,9 +42,9 @@ module _ (m : List ℕ) (octets : Octets m) (long : 6 ≤ length m) (right : sum
   field-same i l =
       let n = size i in
       let a : at (set m i 0) (length (set m i 0) - 2) ≡ at m (length m - 2) =
-          ap (λ k. at (set m i 0) (k - 2)) n ∙ getD-set-other m i (length m - 2) 0 0 (λ q. omega arith) in
+      ap (λ k. at (set m i 0) (k - 2)) n ∙ getD-set-other m i (length m - 2) 0 0 (λ q. omega arith) in
       let b : at (set m i 0) (length (set m i 0) - 1) ≡ at m (length m - 1) =
-          ap (λ k. at (set m i 0) (k - 1)) n ∙ getD-set-other m i (length m - 1) 0 0 (λ q. omega arith) in
+      ap (λ k. at (set m i 0) (k - 1)) n ∙ getD-set-other m i (length m - 1) 0 0 (λ q. omega arith) in
       ap (λ x. word x (at (set m i 0) (length (set m i 0) - 1))) a ∙ ap (word (at m (length m - 2))) b
 
   front-same : (i : ℕ) → length m - 2 ≤ i → sum (take (length (set m i 0) - 2) (set m i 0)) ≡ sum-field m

@@ -37,7 +37,13 @@ fn data_facts(octets: &[u8], strength: u8) -> Result<Facts, Refusal>
         return Err(Refusal::Address);
     }
     let length = count - 8;
-    Ok(Facts { kind: 3, source, destination: Some(destination), length, strength })
+    Ok(Facts {
+        kind: 3,
+        source,
+        destination: Some(destination),
+        length,
+        strength,
+    })
 }
 
 fn beacon_facts(octets: &[u8], strength: u8) -> Result<Facts, Refusal>
@@ -53,5 +59,11 @@ fn beacon_facts(octets: &[u8], strength: u8) -> Result<Facts, Refusal>
         return Err(Refusal::Address);
     }
     let length = count - 6;
-    Ok(Facts { kind: octets[1], source, destination: None, length, strength })
+    Ok(Facts {
+        kind: octets[1],
+        source,
+        destination: None,
+        length,
+        strength,
+    })
 }

@@ -51,7 +51,11 @@ impl Filters {
         ensures { λ r. ⌜ r ≡ muted (now (self .entry)) kind ⌝ }
     {
         let muted = self.muted;
-        if kind < 4 { muted[kind as usize] } else { false }
+        if kind < 4 {
+            muted[kind as usize]
+        } else {
+            false
+        }
     }
 }
 

@@ -13,7 +13,11 @@ use radio::symbol::Symbol;
 use refusal::Refusal;
 
 /// The octets of a message with the spoiled one worked out, at the start of `octets`: how many there are.
-pub(crate) fn judge(symbols: &[Symbol], unit: usize, octets: &mut [u8; 74]) -> Result<usize, Refusal>
+pub(crate) fn judge(
+    symbols: &[Symbol],
+    unit: usize,
+    octets: &mut [u8; 74],
+) -> Result<usize, Refusal>
     requires { ⌜ (1 ≤ unit) × (unit ≤ 24) ⌝ }
     ensures { λ r. ⌜ Cases r (λ n. (6 ≤ n) × (n ≤ 74) × (summed unit (now (symbols .entry)) ≡ Ok (take n (now (octets .exit))))) (λ e. summed unit (now (symbols .entry)) ≡ Err e) ⌝ }
 {

@@ -57,5 +57,9 @@ pub(crate) fn mend(octets: &mut [u8], place: usize) -> Result<(), Refusal>
         }
         octets[place] = value as u8;
     }
-    if stated(octets) == total(octets) { Ok(()) } else { Err(Refusal::Sum) }
+    if stated(octets) == total(octets) {
+        Ok(())
+    } else {
+        Err(Refusal::Sum)
+    }
 }

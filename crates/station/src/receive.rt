@@ -14,7 +14,12 @@ use radio::symbol::Symbol;
 use refusal::Refusal;
 
 /// Takes the present reception and answers what is told of the message in it, whose octets then stand in `octets`.
-pub(crate) fn receive<L: Line>(line: &mut L, unit: usize, strength: u8, octets: &mut [u8; 74]) -> Result<Facts, Refusal>
+pub(crate) fn receive<L: Line>(
+    line: &mut L,
+    unit: usize,
+    strength: u8,
+    octets: &mut [u8; 74],
+) -> Result<Facts, Refusal>
     requires { ⌜ (1 ≤ unit) × (unit ≤ 24) ⌝ }
     ensures answers { λ r. ⌜ Received unit strength (L·Line .heard (now (line .entry)) .present) r (now (octets .exit)) ⌝ }
     ensures left { λ r. ⌜ L·Line .heard (now (line .exit)) ≡ past 97 (L·Line .heard (now (line .entry))) ⌝ }

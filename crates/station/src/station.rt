@@ -67,7 +67,12 @@ impl Station {
 
     /// Opens one reception of the line and answers what is told of the message in it, with its payload at the start
     /// of `buffer`; or the first refusal, with the buffer as it was.
-    pub fn read<L: Line>(&self, line: &mut L, strength: u8, buffer: &mut [u8]) -> Result<Facts, Refusal>
+    pub fn read<L: Line>(
+        &self,
+        line: &mut L,
+        strength: u8,
+        buffer: &mut [u8],
+    ) -> Result<Facts, Refusal>
         ensures answers { λ r. ⌜ r ≡ told strength (reading (now (self .entry) .own) (now (self .entry) .filters) strength (length (now (buffer .entry))) (L·Line .heard (now (line .entry)))) ⌝ }
         ensures buffer { λ r. ⌜ now (buffer .exit) ≡ buffer-left (reading (now (self .entry) .own) (now (self .entry) .filters) strength (length (now (buffer .entry))) (L·Line .heard (now (line .entry)))) (now (buffer .entry)) ⌝ }
         ensures left { λ r. ⌜ L·Line .heard (now (line .exit)) ≡ line-left (length (now (buffer .entry))) (L·Line .heard (now (line .entry))) ⌝ }

@@ -1,1 +1,5 @@
 pub mod Figures
+pub mod Names
+pub mod Seals
+pub mod Stops
+pub mod Words

@@ -1,10 +1,15 @@
 ghost use mathlib.Core.Path.{_≡_};
 ghost use Prim.Native.Nat.{_<_};
+ghost use Rattle.std.specs.Of.Vec.{vec-items};
 ghost use Rattle.std.specs.Options.{Cases};
-ghost use Rattle.wln.specs.Figures.{digit-value, octet-value};
+ghost use Rattle.std.specs.Results.{Cases as Answers};
+ghost use Rattle.std.specs.declared.option.Option.the-variants.{Some, None};
+ghost use Rattle.wln.specs.Figures.{digit-value, octet-value, pairs-value, octets-value, dash, address-word};
+ghost use Rattle.wln.specs.Stops.{Where-unread};
 use crate::stop::Stop;
 use crate::stop::StopFromAlloc;
 use crate::stop::StopFromRefused;
+use std::alloc::AllocError;
 use std::alloc::Global;
 
 const DIGITS: [u8; 16] = *b"0123456789ABCDEF";
@@ -31,42 +36,67 @@ fn octet(high: u8, low: u8) -> Option<u8>
     Some(16 * upper + lower)
 }
 
+/// Whether a word is `-`, which stands for nothing.
+pub fn is_dash(word: &[u8]) -> bool
+    ensures { λ r. ⌜ r ≡ dash (now (word .entry)) ⌝ }
+{
+    word.len() == 1 && word[0] == b'-'
+}
+
 /// A string of octets: hex without blanks, or `-` for none.
-pub fn octets(heap: Global, word: &[u8]) -> Result<Vec<u8>, Stop> {
+pub fn octets(heap: Global, word: &[u8]) -> Result<Vec<u8>, Stop>
+    ensures { λ r. ⌜ Answers r (λ v. octets-value (now (word .entry)) ≡ Some (vec-items v)) (λ stop. Where-unread stop (octets-value (now (word .entry)) ≡ None)) ⌝ }
+{
+    if is_dash(word) {
+        return Ok(Vec::new(heap));
+    }
+    pairs(heap, word)
+}
+
+/// Octets of two hex digits each.
+fn pairs(heap: Global, word: &[u8]) -> Result<Vec<u8>, Stop>
+    ensures { λ r. ⌜ Answers r (λ v. pairs-value (now (word .entry)) ≡ Some (vec-items v)) (λ stop. Where-unread stop (pairs-value (now (word .entry)) ≡ None)) ⌝ }
+{
     let mut octets = Vec::new(heap);
-    if word == b"-" {
-        return Ok(octets);
+    let mut rest = word;
+    while let [high, low, after @ ..] = rest {
+        let Some(x) = octet(*high, *low) else {
+            return Err(Stop::Unread("octets are hex digits without blanks, or - for none"));
+        };
+        octets.push(x)?;
+        rest = after;
     }
-    if word.len() % 2 != 0 {
+    if !rest.is_empty() {
         return Err(Stop::Unread("an octet has two hex digits"));
-    }
-    for i in 0..word.len() / 2 {
-        match octet(word[2 * i], word[2 * i + 1]) {
-            Some(x) => octets.push(x)?,
-            None => return Err(Stop::Unread("octets are hex digits without blanks, or - for none")),
-        }
     }
     Ok(octets)
 }
 
 /// An address: four hex digits.
-pub fn address(word: &[u8]) -> Option<u16> {
+pub fn address(word: &[u8]) -> Option<u16>
+    ensures { λ r. ⌜ r ≡ address-word (now (word .entry)) ⌝ }
+{
     let [a, b, c, d] = word else {
         return None;
     };
     let high = octet(*a, *b)?;
     let low = octet(*c, *d)?;
-    Some(u16::from_be_bytes([high, low]))
+    Some(256 * u16::from(high) + u16::from(low))
 }
 
 /// Adds octets in capital hex, or `-` where there are none.
-pub fn push_octets(out: &mut String, octets: &[u8]) -> Result<(), Stop> {
+pub fn push_octets(out: &mut String, octets: &[u8]) -> Result<(), AllocError> {
     if octets.is_empty() {
         out.push('-')?;
     }
     for x in octets {
-        out.push(DIGITS[(*x / 16) as usize] as char)?;
-        out.push(DIGITS[(*x % 16) as usize] as char)?;
+        push_octet(out, *x)?;
     }
     Ok(())
+}
+
+/// Adds an octet as two capital hex digits.
+pub fn push_octet(out: &mut String, octet: u8) -> Result<(), AllocError> {
+    out.push(DIGITS[(octet / 16) as usize] as char)?;
+    out.push(DIGITS[(octet % 16) as usize] as char)
 }

@@ -1,36 +1,34 @@
 //! wln: reads commands from standard input, one to a line, and prints what was done.
+mod bodies;
+mod body_lines;
 mod command;
+mod console;
+mod decimal;
+mod hear;
 mod hex;
+mod listing;
+mod recording;
 mod seal;
+mod session;
 mod stop;
 mod words;
 
-use crate::command::obey;
-use crate::stop::Stop;
-use std::alloc::AllocError;
-use std::alloc::Global;
+use crate::console::Console;
+use crate::session::commands;
+use crate::session::play;
+use radio::octet_line::OctetLine;
+use radio::octet_line::OctetLineLine;
 use std::io;
-use std::io::BufRead;
-use std::io::BufReader;
-use std::io::BufWriter;
-use std::io::Write;
 
+/// Before the first recording the line is one on which nothing was heard.
 fn main(rt: LibcRuntime) -> io::Result<()> {
-    let heap = rt.alloc();
-    let mut out = BufWriter::new(rt.stdout());
-    for line in BufReader::new(rt.stdin()).split(heap, b'\n') {
-        let text = answer(heap, line?.as_slice())?;
-        out.write_all(text.as_str().as_bytes())?;
+    let mut console = Console::new(&rt);
+    let mut next = commands(&mut console, OctetLine::new(b""))?;
+    for _ in 0..u64::MAX {
+        let Some(recording) = next else {
+            break;
+        };
+        next = play(&mut console, &recording)?;
     }
-    out.flush()
-}
-
-/// What is printed for one line; nothing for a blank line and for a comment.
-fn answer(heap: Global, line: &[u8]) -> Result<String, AllocError> {
-    let mut out = String::new(heap);
-    match obey(heap, line, &mut out) {
-        Ok(()) => Ok(out),
-        Err(Stop::Unread(why)) => format!(heap, "? {why}\n"),
-        Err(Stop::Memory) => Err(AllocError),
-    }
+    console.flush()
 }

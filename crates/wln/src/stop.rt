@@ -1,3 +1,5 @@
+ghost use mathlib.Core.Path.{_≡_};
+ghost use Rattle.wln.specs.declared.stop.Stop.the-variants.{Memory};
 use std::alloc::AllocError;
 use std::alloc::Refused;
 
@@ -11,12 +13,16 @@ pub enum Stop {
 }
 
 pub impl From<AllocError> for Stop as StopFromAlloc {
+    ghost converts = { λ _ r. r ≡ Memory };
+
     fn from(_e: AllocError) -> Stop {
         Stop::Memory
     }
 }
 
 pub impl<T: Drop> From<Refused<T>> for Stop as StopFromRefused {
+    ghost converts = { λ _ r. r ≡ Memory };
+
     fn from(_e: Refused<T>) -> Stop {
         Stop::Memory
     }

@@ -17,9 +17,10 @@ returns-then-place-eq0 c =
     let e = c .first-spoiled-place .ensures in
     let within : p < length ss = omega (arith, e .within, c .if-place-symbols .left) in
     elim (c .then-place-eq0 .came) [
-      then-place-eq0·by·then-place-eq0 w ↦ place-first ss p (e .place) (w .if-place-eq0 .taken) (omega arith)
-    | then-place-eq0·by·else-place-eq0·then-first-spoiled-rest w ↦
-        place-two ss p (e .place) _ (w .first-spoiled .result) (take-rest ss (p + 1)) (w .first-spoiled .ensures .place) (omega (arith, w .if-place-eq0 .left)) within (w .if-first-spoiled-rest .taken) ]
+      | then-place-eq0·by·then-place-eq0 w ↦ place-first ss p (e .place) (w .if-place-eq0 .taken) (omega arith)
+      | then-place-eq0·by·else-place-eq0·then-first-spoiled-rest w ↦
+          place-two ss p (e .place) _ (w .first-spoiled .result) (take-rest ss (p + 1)) (w .first-spoiled .ensures .place) (omega (arith, w .if-place-eq0 .left)) within (w .if-first-spoiled-rest .taken)
+    ]
 
 pub returns : need.returns
 returns c =

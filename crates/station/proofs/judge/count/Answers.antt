@@ -32,5 +32,5 @@ returns c =
       there = omega (arith, c .round-up .ensures .least, c .if-round-up-symbols .left);
       few = few;
       left = all-blank (c .args .unit) ss n (c .number-of-number .ensures .value) few (c .if-number-lt6 .left) (c .if-number-gt74 .left) round
-        (ap blank (sym (take-rest ss n)) ∙ sym (c .is-blank .ensures) ∙ c .if-not-is-blank .left);
+          (ap blank (sym (take-rest ss n)) ∙ sym (c .is-blank .ensures) ∙ c .if-not-is-blank .left);
     }

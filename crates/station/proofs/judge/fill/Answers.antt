@@ -16,11 +16,12 @@ loop-i-again c =
     let x = c .match-symbol .octets in
     let inv = c .loop-i .inv in
     let is : x ≡ value-or 0 (getD ss i (Clean 0)) =
-        elim (c .match-symbol .came) [ in-Clean w ↦ w .octets-is ∙ ap (value-or 0) (sym (w .in-Clean .is)) | in-Spoiled w ↦ w .octets-is ∙ ap (value-or 0) (sym (w .in-Spoiled .is)) ] in
-    let room : i < length (c .loop-i .octets) = omega (arith, inv .1, c .pre, c .loop-i-test .taken) in
-    ( take-more-set (c .loop-i .octets) i x room ∙ ap (λ ys. ys ++ (x ∷ [])) (inv .0) ∙ ap (λ y. filled 0 (take i ss) ++ (y ∷ [])) is
-        ∙ sym (map-more (value-or 0) ss i (Clean 0) (c .loop-i-test .taken))
-    , length-set (c .loop-i .octets) i x ∙ inv .1 )
+    elim (c .match-symbol .came) [ in-Clean w ↦ w .octets-is ∙ ap (value-or 0) (sym (w .in-Clean .is)) | in-Spoiled w ↦ w .octets-is ∙ ap (value-or 0) (sym (w .in-Spoiled .is)) ] in
+    let room : i < length (c .loop-i .octets) = omega (arith, inv .1, c .pre, c .loop-i-test .taken) in (
+      take-more-set (c .loop-i .octets) i x room ∙ ap (λ ys. ys ++ (x ∷ [])) (inv .0) ∙ ap (λ y. filled 0 (take i ss) ++ (y ∷ [])) is
+          ∙ sym (map-more (value-or 0) ss i (Clean 0) (c .loop-i-test .taken)),
+      length-set (c .loop-i .octets) i x ∙ inv .1,
+    )
 
 pub returns : need.returns
 returns c =

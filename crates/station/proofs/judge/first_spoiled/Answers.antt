@@ -21,7 +21,7 @@ loop-i-again c =
     let ss = c .args .symbols .now in
     let i = c .loop-i .i in
     let here : spoiled-place (drop i ss) ≡ 1 + spoiled-place (drop (i + 1) ss) =
-        at-drop-more spoiled-place ss i (Clean 0) (c .loop-i-test .taken) ∙ ap (λ s. spoiled-place (s ∷ drop (i + 1) ss)) (c .in-rest .is) in
+    at-drop-more spoiled-place ss i (Clean 0) (c .loop-i-test .taken) ∙ ap (λ s. spoiled-place (s ∷ drop (i + 1) ss)) (c .in-rest .is) in
     let before : spoiled-place ss ≡ i + spoiled-place (drop i ss) = c .loop-i .inv in
     let after : spoiled-place ss ≡ i + 1 + spoiled-place (drop (i + 1) ss) = omega arith in
     after

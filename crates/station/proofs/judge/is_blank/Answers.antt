@@ -28,7 +28,8 @@ loop-symbol-again c =
     let i = c .loop-symbol .symbol-index in
     let step : blank ss ≡ blank (getD ss i (Clean 0) ∷ drop (i + 1) ss) = sym (c .loop-symbol .inv) ∙ at-drop-more blank ss i (Clean 0) (c .loop-symbol-test .taken) in
     let zero-first : blank (getD ss i (Clean 0) ∷ drop (i + 1) ss) ≡ blank (drop (i + 1) ss) =
-        elim (c .match-symbol .came) [
-          in-Clean·else-value-ne0 w ↦ ap (λ s. blank (s ∷ drop (i + 1) ss)) (w .in-Clean .is) ∙ ap (λ b. b && blank (drop (i + 1) ss)) (eq-eqb (w .in-Clean .value) 0 (w .if-value-ne0 .left))
-        | in-rest w ↦ ap (λ s. blank (s ∷ drop (i + 1) ss)) (w .in-rest .is) ] in
+    elim (c .match-symbol .came) [
+      | in-Clean·else-value-ne0 w ↦ ap (λ s. blank (s ∷ drop (i + 1) ss)) (w .in-Clean .is) ∙ ap (λ b. b && blank (drop (i + 1) ss)) (eq-eqb (w .in-Clean .value) 0 (w .if-value-ne0 .left))
+      | in-rest w ↦ ap (λ s. blank (s ∷ drop (i + 1) ss)) (w .in-rest .is)
+    ] in
     sym (step ∙ zero-first)

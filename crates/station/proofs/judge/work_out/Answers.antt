@@ -19,9 +19,9 @@ returns c =
     let part : take (n - 0) xs ≡ filled 0 ss = ap (λ k. take k xs) (omega arith) ∙ c .fill .ensures in
     let place = c .first-spoiled .ensures .place in
     let same : mended ss ≡ sum-checked (set (take (n - 0) xs) (c .first-spoiled .result) (missing-octet (c .first-spoiled .result) (take (n - 0) xs))) =
-        ap sum-checked (filled-set (missing-octet (spoiled-place ss) (filled 0 ss)) ss (c .pre .2))
-        ∙ ap (λ i. sum-checked (set (filled 0 ss) i (missing-octet i (filled 0 ss)))) (sym place)
-        ∙ ap (λ m. sum-checked (set m (c .first-spoiled .result) (missing-octet (c .first-spoiled .result) m))) (sym part) in
+    ap sum-checked (filled-set (missing-octet (spoiled-place ss) (filled 0 ss)) ss (c .pre .2))
+    ∙ ap (λ i. sum-checked (set (filled 0 ss) i (missing-octet i (filled 0 ss)))) (sym place)
+    ∙ ap (λ m. sum-checked (set m (c .first-spoiled .result) (missing-octet (c .first-spoiled .result) m))) (sym part) in
     let full : length xs ≡ 74 = search needs in
     let whole : length (take (n - 0) xs) ≡ n - 0 = length-take-le (n - 0) xs (omega (arith, c .pre .1)) in
     let long : length (c .mend .last .octets) ≡ n = omega (arith, c .mend .kept .octets) in

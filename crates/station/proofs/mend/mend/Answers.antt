@@ -28,9 +28,10 @@ returns-then-stated-total c =
     let n = c .if-place-octets .octets in
     let v = missing-octet (c .args .place) m in
     let is : n ≡ set m (c .args .place) v =
-        elim (c .if-place-octets .came) [
-          then-place-octets·else-value-gt255 w ↦ w .octets-is ∙ ap (set m (c .args .place)) (c .missing-value .ensures)
-        | else-place-octets w ↦ w .octets-is ∙ sym (set-past m (c .args .place) v (w .if-place-octets .left)) ] in
+    elim (c .if-place-octets .came) [
+      | then-place-octets·else-value-gt255 w ↦ w .octets-is ∙ ap (set m (c .args .place)) (c .missing-value .ensures)
+      | else-place-octets w ↦ w .octets-is ∙ sym (set-past m (c .args .place) v (w .if-place-octets .left))
+    ] in
     ap sum-checked (sym is) ∙ sum-accepted n (c .total .ensures .octets) (eq-eqb _ _ (sym (c .stated .ensures) ∙ c .if-stated-total .taken ∙ c .total .ensures .sum))
 
 pub returns-else-stated-total : need.returns-else-stated-total
@@ -39,8 +40,9 @@ returns-else-stated-total c =
     let n = c .if-place-octets .octets in
     let v = missing-octet (c .args .place) m in
     let is : n ≡ set m (c .args .place) v =
-        elim (c .if-place-octets .came) [
-          then-place-octets·else-value-gt255 w ↦ w .octets-is ∙ ap (set m (c .args .place)) (c .missing-value .ensures)
-        | else-place-octets w ↦ w .octets-is ∙ sym (set-past m (c .args .place) v (w .if-place-octets .left)) ] in
+    elim (c .if-place-octets .came) [
+      | then-place-octets·else-value-gt255 w ↦ w .octets-is ∙ ap (set m (c .args .place)) (c .missing-value .ensures)
+      | else-place-octets w ↦ w .octets-is ∙ sym (set-past m (c .args .place) v (w .if-place-octets .left))
+    ] in
     ap sum-checked (sym is)
     ∙ sum-refused n (and-right (all-octets n) (sum-right n) (ne-eqb _ _ (λ e. c .if-stated-total .left (c .stated .ensures ∙ e ∙ sym (c .total .ensures .sum)))))

@@ -23,7 +23,7 @@ returns-in-Break-number g c =
     let e = err-from-errBy (c .from-residual-in-Break-number .result) (c .from-residual-in-Break-number .ensures .1) in
     record {
       answers = subst (λ (x : Result Facts Refusal). Received (c .args .unit) (c .args .strength) p x (c .judge .last .octets)) (sym (e .1))
-        (not-judged (c .args .unit) (c .args .strength) p _ got (e .0) (c .in-Break-number .ensures tt ∙ ap Err (sym (e .2))));
+          (not-judged (c .args .unit) (c .args .strength) p _ got (e .0) (c .in-Break-number .ensures tt ∙ ap Err (sym (e .2))));
       left = k .left;
     }
 

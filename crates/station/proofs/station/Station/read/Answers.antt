@@ -51,7 +51,7 @@ returns-in-Break-pass g c =
     let stands = subst (λ (z : Heard). Stands u (c .args .strength) (z .present) facts (c .receive .last .octets)) (o .left) (c .in-Continue-facts .ensures tt .answers) in
     let e = err-from-errBy (c .from-residual-in-Break-pass .result) (c .from-residual-in-Break-pass .ensures .1) in
     let answer = read-withheld (s .own) (s .filters) (c .args .strength) room h (c .if-buffer-lt66 .left) u is (c .if-unit-gt24 .left) (o .answers) facts (c .receive .last .octets) stands (e .0)
-        (ap Err (e .2) ∙ c .in-Break-pass .ensures tt) in
+    (ap Err (e .2) ∙ c .in-Break-pass .ensures tt) in
     record {
       answers = e .1 ∙ sym (ap (told (c .args .strength)) answer);
       buffer = sym (ap (λ z. buffer-left z (c .args .buffer .now)) answer);
@@ -74,6 +74,6 @@ returns g c =
     record {
       answers = ap Ok (stands .facts) ∙ sym (ap (told (c .args .strength)) answer);
       buffer = buffer-is (s .own) (s .filters) (c .args .strength) room h (c .if-buffer-lt66 .left) u is (c .if-unit-gt24 .left) (o .answers) facts octets stands (c .args .buffer .now) (c .hand-up .last .buffer) (c .hand-up .ensures)
-        ∙ sym (ap (λ z. buffer-left z (c .args .buffer .now)) answer);
+          ∙ sym (ap (λ z. buffer-left z (c .args .buffer .now)) answer);
       left = left;
     }
