@@ -1,9 +1,11 @@
 pub mod Collecting
+pub mod Exactly
 pub mod Judged
+pub mod Padding
+pub mod Playing
 pub mod ReadSteps
 pub mod Receipt
 pub mod Spoilt
 pub mod Sums
 pub mod Worked
 pub mod Written
-pub mod Exactly

@@ -5,3 +5,5 @@ pub mod Counting
 pub mod Receiving
 pub mod Exactness
 pub mod Sending
+pub mod Runs
+pub mod Law
