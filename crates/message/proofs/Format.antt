@@ -279,7 +279,7 @@ module _ (m : List ℕ) (l : Lawful m) where
       ap (λ ys. octets-of-word (sum ys)) front-is ∙ ap octets-of-word (sym (l .summed))
       ∙ octets-again (at m (length m - 2)) (at m (length m - 1)) (octet-at m 0 l (length m - 1) (omega (arith, l .least))) ∙ sym last-two
 
-  rebuilt : m ≡ message (kind m) (destination m) (source m) (payload m)
+  pub rebuilt : m ≡ message (kind m) (destination m) (source m) (payload m)
   rebuilt = sym (ap (λ ys. ys ++ octets-of-word (sum (front (kind m) (destination m) (source m) (payload m)))) front-is ∙ ap (λ ys. take (length m - 2) m ++ ys) end-is ∙ take-append-drop (length m - 2) m)
 
   fields-fit : Admissible (kind m) (destination m) (source m) (payload m)

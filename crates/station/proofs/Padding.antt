@@ -28,6 +28,16 @@ take-past (x ∷ xs) ys k = ap (λ n. take n (x ∷ (xs ++ ys))) (suc-add (lengt
 pub outlet-unit : (s : State) → Sound s → 1 ≤ unit s
 outlet-unit s h = every-pile (s .pile) .positive (s .ground) (h .grounded)
 
+-- a padded message has a multiple of the unit
+pub padded-count : (u : ℕ) → 1 ≤ u → (m : List ℕ) → length (padded u m) ≡ rounded u (length m)
+padded-count u some m =
+    let n = length m in
+    let least = rounded-least u n some .0 in
+    length-append m (replicate (rounded u n - n) 0) ∙ ap (λ k. n + k) (length-replicate (rounded u n - n) 0) ∙ whole n (rounded u n) least
+  where
+    whole : (n r : ℕ) → n ≤ r → n + (r - n) ≡ r
+    whole n r h = omega arith
+
 module _ (u : ℕ) (some : 1 ≤ u) (small : u ≤ 24) (m : List ℕ) (short : length m ≤ 74) where
   -- a message and zeros behind it, cut at the rounded count, is the padded message
   pub padded-cut : take (rounded u (length m)) (m ++ replicate (96 - length m) 0) ≡ padded u m
@@ -41,14 +51,8 @@ module _ (u : ℕ) (some : 1 ≤ u) (small : u ≤ 24) (m : List ℕ) (short : l
       ∙ take-past m (replicate (96 - n) 0) (r - n)
       ∙ ap (λ l. m ++ l) (take-replicate (r - n) (96 - n) 0 (omega arith))
 
-  pub padded-length : length (padded u m) ≡ rounded u (length m)
-  padded-length =
-      let n = length m in
-      let least = rounded-least u n some .0 in
-      length-append m (replicate (rounded u n - n) 0) ∙ ap (λ k. n + k) (length-replicate (rounded u n - n) 0) ∙ whole n (rounded u n) least
-    where
-      whole : (n r : ℕ) → n ≤ r → n + (r - n) ≡ r
-      whole n r h = omega arith
+  padded-length : length (padded u m) ≡ rounded u (length m)
+  padded-length = padded-count u some m
 
   is-even : even (length (padded u m)) u ≡ true
   is-even =

@@ -5,12 +5,12 @@ use mathlib.Core.List.{List, [], _∷_, _++_}
 use Prim.Native.Nat.{ℕ, _+_, _-_, _<_, _≤_, min}
 use native.Mathlib.Omega.{arith}
 use lib.Dec.{leb}
-use lib.ListN.{length, take, drop, replicate}
+use lib.ListN.{length, getD, set, take, drop, replicate}
 use Rattle.std.specs.declared.option.Option.{Option}
 use Rattle.std.specs.declared.option.Option.the-variants.{Some, None}
 use Rattle.std.specs.declared.result.Result.{Result}
 use Rattle.std.specs.declared.result.Result.the-variants.{Ok, Err}
-use Rattle.std.proofs.shelf.Lists.{append-nil, take-all, drop-all, length-replicate}
+use Rattle.std.proofs.shelf.Lists.{append-nil, take-more, take-more-set}
 use Rattle.std.proofs.shelf.Tests.{le-leb, lt-leb, leb-true, cases-lt}
 use mathlib.Core.Logic.{_⊎_, inl, inr}
 use Rattle.refusal.specs.declared.Refusal.{Refusal}
@@ -90,3 +90,12 @@ plays-more state own [] [] o x a b c p s = (c, subst (λ (z : Stand _). Step sta
 plays-more state own [] (y ∷ ys) o x a b c p s = absurd p
 plays-more state own (q ∷ os) [] o x a b c p s = absurd p
 plays-more state own (q ∷ os) (y ∷ xs) o x a b c p s = (p .0, p .1, plays-more state own os xs o x (p .0) b c (p .2) s)
+
+pub plays-next : {A : Type 0} (state : A → State) (own : ℕ) (os : List Order) (xs : List Outcome) (i : ℕ) (o : Order) (x : Outcome) (a b c : Stand A)
+    → i < length os → getD os i o ≡ o → i < length xs → Plays state own (take i os) (take i xs) a b → Step state own o x b c
+    → Plays state own (take (i + 1) os) (take (i + 1) (set xs i x)) a c
+plays-next state own os xs i o x a b c l at k p s =
+    let ose : take i os ++ o ∷ [] ≡ take (i + 1) os = ap (λ z. take i os ++ z ∷ []) (sym at) ∙ sym (take-more os i o l) in
+    let xse : take i xs ++ x ∷ [] ≡ take (i + 1) (set xs i x) = sym (take-more-set xs i x k) in
+    subst (λ (z : List Order). Plays state own z (take (i + 1) (set xs i x)) a c) ose
+    (subst (λ (z : List Outcome). Plays state own (take i os ++ o ∷ []) z a c) xse (plays-more state own (take i os) (take i xs) o x a b c p s))

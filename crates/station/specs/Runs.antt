@@ -2,9 +2,10 @@
 use mathlib.Core.Path.{_≡_}
 use mathlib.Core.Bool.{Bool, cond}
 use mathlib.Core.List.{List, [], _∷_}
-use Prim.Native.Nat.{ℕ}
+use mathlib.Core.Logic.{_⊎_}
+use Prim.Native.Nat.{ℕ, _≤_, min}
 use lib.Dec.{leb}
-use lib.ListN.{replicate}
+use lib.ListN.{length, take, drop, replicate}
 use Rattle.std.specs.declared.option.Option.{Option}
 use Rattle.std.specs.declared.option.Option.the-variants.{Some, None}
 use Rattle.std.specs.declared.result.Result.{Result}
@@ -19,7 +20,7 @@ use Rattle.station.specs.declared.order.Order.{Order}
 use Rattle.station.specs.declared.order.Order.the-variants.{Strength, Identity, Mute, Read, Send}
 use Rattle.station.specs.declared.order.Outcome.{Outcome}
 use Rattle.station.specs.declared.order.Outcome.the-variants.{Set, Sent as Was-sent, Message, Refused}
-use Rattle.station.specs.Filtering.{with-strength, with-identity, with-mute}
+use Rattle.station.specs.Filtering.{off, with-strength, with-identity, with-mute}
 use Rattle.station.specs.Judging.{reading, facts-of, buffer-left, line-left}
 use Rattle.station.specs.Sending.{send-refusal, Sent}
 
@@ -57,3 +58,16 @@ Plays state own [] [] a b = a ≡ b
 Plays state own [] (x ∷ xs) a b = ⊥
 Plays state own (o ∷ os) [] a b = ⊥
 Plays {A} state own (o ∷ os) (x ∷ xs) a b = (c : Stand A) × Step state own o x a c × Plays state own os xs c b
+
+-- how many orders were played
+abbrev pub count-of : Result ℕ Refusal → ℕ
+count-of (Ok n) = n
+count-of (Err e) = 0
+
+-- a run: a station of this address is made, and as many orders are played as there are, or as there is room for their
+-- outcomes; an address that no station has is refused, and all is as it was
+abbrev pub Ran : {A : Type 0} → (A → State) → ℕ → List Order → Result ℕ Refusal → List Outcome → List Outcome → Heard → Heard → A → A → Type 0
+Ran state own os (Ok n) before after h k a b =
+    (1 ≤ own) × (own ≤ 0xfffe) × (n ≡ min (length os) (length before)) × (drop n after ≡ drop n before)
+    × ((f : Filters) × Plays state own (take n os) (take n after) (record { filters = off; heard = h; outlet = a }) (record { filters = f; heard = k; outlet = b }))
+Ran state own os (Err e) before after h k a b = ((own ≡ 0) ⊎ (own ≡ 0xffff)) × (e ≡ Argument) × (after ≡ before) × (k ≡ h) × (b ≡ a)

@@ -1,6 +1,8 @@
 ghost use mathlib.Core.Path.{_≡_};
+ghost use lib.ListN.{take};
 ghost use Rattle.station.specs.Judging.{reading, line-left};
-ghost use Rattle.station.specs.Runs.{Stand, read-outcome, Step};
+ghost use Rattle.station.specs.Runs.{Stand, read-outcome, Step, count-of, Ran};
+ghost use Rattle.station.specs.Law.{Radio};
 use crate::order::Order;
 use crate::order::Outcome;
 use crate::send::send;
@@ -8,6 +10,27 @@ use crate::station::Station;
 use radio::line::Line;
 use radio::outlet::Outlet;
 use refusal::Refusal;
+
+/// Makes a station with the address `own` and plays orders on it, a line and an outlet, each beginning with what the one
+/// before has left; what came of each stands in `outcomes`. Answers how many were played: all, or as many as there is
+/// room for. `Argument`, and nothing changed, for an address that no station has.
+pub fn run<L: Line, O: Outlet>(
+    own: u16,
+    line: &mut L,
+    outlet: &mut O,
+    orders: &[Order],
+    outcomes: &mut [Outcome],
+) -> Result<usize, Refusal>
+    ensures ran { λ r. ⌜ Ran (O·Outlet .state) own (now (orders .entry)) r (now (outcomes .entry)) (now (outcomes .exit)) (L·Line .heard (now (line .entry))) (L·Line .heard (now (line .exit))) (now (outlet .entry)) (now (outlet .exit)) ⌝ }
+    ensures law { λ r. ⌜ Radio own (L·Line .heard (now (line .entry))) (take (count-of r) (now (orders .entry))) (take (count-of r) (now (outcomes .exit))) ⌝ }
+{
+    let mut station = Station::new(own)?;
+    let count = orders.len().min(outcomes.len());
+    for i in 0..count {
+        outcomes[i] = play(&mut station, line, outlet, &orders[i]);
+    }
+    Ok(count)
+}
 
 /// Plays one order.
 fn play<L: Line, O: Outlet>(station: &mut Station, line: &mut L, outlet: &mut O, order: &Order) -> Outcome

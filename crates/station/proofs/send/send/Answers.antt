@@ -9,7 +9,7 @@ use Rattle.message.specs.Parts.{items}
 use Rattle.message.proofs.Sealing.{items-length}
 use Rattle.station.specs.Nearness.{rounded, padded}
 use Rattle.station.proofs.Playing.{sent-by}
-use Rattle.station.proofs.Padding.{outlet-unit, padded-cut, padded-length, refusal-is}
+use Rattle.station.proofs.Padding.{outlet-unit, padded-cut, refusal-is}
 use Rattle.station.proofs.send.send.Needs as need
 
 pub round-up-count-requires : need.round-up-count-requires
