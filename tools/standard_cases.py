@@ -4,8 +4,8 @@
 Messages are coded by layers.py; then symbols of them are spoiled, exchanged, left out or added.
 """
 import itertools
-import random
 
+from bodies_cases import Random
 from ears import SIGN, frame
 from layers import encode_block, encode_manchester, encode_standard
 from lines_cases import frames, pack
@@ -92,14 +92,14 @@ def ending_cases():
 
 
 def random_cases():
-    noise = random.Random(1946)
+    random = Random(1946)
     for _ in range(20):
-        coded = encode_standard(noise.randbytes(3 * noise.randrange(1, 12)))
-        lost = noise.sample(range(len(coded)), noise.randrange(0, 4))
-        both(coded[:len(coded) - noise.choice([0, 0, 0, 1, 2, 5])], [p for p in lost if p < len(coded) - 5])
+        coded = encode_standard(random.octets(3 * random.below(11) + 3))
+        kept = coded[:len(coded) - (0, 0, 0, 1, 2, 5)[random.below(6)]]
+        both(kept, {random.below(len(kept)) for _ in range(random.below(4))})
     for _ in range(10):
-        block = encode_block(noise.randbytes(6))
-        block[noise.randrange(8)] ^= 1 << noise.randrange(8)
+        block = encode_block(random.octets(6))
+        block[random.below(8)] ^= 1 << random.below(8)
         both(encode_manchester(block))
 
 

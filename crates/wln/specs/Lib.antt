@@ -1,3 +1,4 @@
+pub mod Endings
 pub mod Figures
 pub mod Names
 pub mod Seals
