@@ -26,3 +26,7 @@ misuse() {
 misuse "adding to a sealed message" message src/draft.rt \
     'pub fn misuse(draft: Draft) { let mut sealed = draft.seal(); let _ = sealed.add(&[0]); }' \
     'draft.rt.*error\[unknown-method\]'
+
+misuse "sending a draft" station src/send.rt \
+    'pub fn misuse<O: Outlet>(outlet: &mut O, draft: message::draft::Draft) { let _ = send(outlet, &draft, 3); }' \
+    'send.rt.*error\[mismatched-types\]'

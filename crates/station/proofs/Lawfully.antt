@@ -96,9 +96,9 @@ through pile under ground m r some l h =
     let pu = every-pile pile .positive v pv in
     let xs = padded u m in
     let fit : Fit (unit-of pile) v xs = record {
-          octets = layer-octets xs (all-append (λ x. x < 256) m (replicate (rounded u (length m) - length m) 0) (l .octets) (zeros (rounded u (length m) - length m)));
-          even = ((length m + u - 1) / u, padded-count u pu m);
-        } in
+      octets = layer-octets xs (all-append (λ x. x < 256) m (replicate (rounded u (length m) - length m) 0) (l .octets) (zeros (rounded u (length m) - length m)));
+      even = ((length m + u - 1) / u, padded-count u pu m);
+    } in
     let honest = every-pile pile .honest v xs r pv fit h in
     let marked = every-pile pile .marked v xs r pv fit h in
     (λ near. subst Few marked (near .few), λ few. record { agrees = honest; few = subst Few (sym marked) few })
@@ -109,8 +109,8 @@ law state own os xs a b e s p = record {
   layered = s .layered;
   stops = run-stops state own os xs a b p;
   reads = λ i strength room x oe xe opened-one.
-    subst (λ (z : Filters). Reads state own (unit (a .heard)) (settings z (take i os) (take i xs)) (nth (a .heard .coming) (opened (take i os) (take i xs))) strength x) e
-    (run-reads state own os xs a b (unit-some (a .heard) s) p i strength room x oe xe opened-one);
+      subst (λ (z : Filters). Reads state own (unit (a .heard)) (settings z (take i os) (take i xs)) (nth (a .heard .coming) (opened (take i os) (take i xs))) strength x) e
+      (run-reads state own os xs a b (unit-some (a .heard) s) p i strength room x oe xe opened-one);
   unique = unique;
   near = λ pile under ground preamble m s t r some l pe ge sent h. through pile under ground m r some l h;
 }

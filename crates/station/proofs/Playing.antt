@@ -80,7 +80,7 @@ module _ (own : ℕ) (f : Filters) (strength room size : ℕ) (h : Heard) (is : 
           let full : part ≡ replicate 66 0 = pe ∙ ap (λ n. take n (replicate 66 0)) all in
           let none : drop size (replicate {A = ℕ} 66 0) ≡ [] = ap (λ n. drop n (replicate 66 0)) all in
           let filled : after ≡ buffer-left (Ok m) (replicate 66 0) =
-              ae ∙ ap (λ z. buffer-left z part ++ drop size (replicate 66 0)) e ∙ ap (λ z. buffer-left (Ok m) part ++ z) none ∙ append-nil (buffer-left (Ok m) part) ∙ ap (buffer-left (Ok m)) full in
+          ae ∙ ap (λ z. buffer-left z part ++ drop size (replicate 66 0)) e ∙ ap (λ z. buffer-left (Ok m) part ++ z) none ∙ append-nil (buffer-left (Ok m) part) ∙ ap (buffer-left (Ok m)) full in
           ap (λ z. Message z after) same ∙ ap (Message (facts-of strength m)) filled
 
 -- one order more

@@ -102,7 +102,7 @@ late-received : (own : ℕ) (f : Filters) (strength u : ℕ) (r : Reception) →
 late-received own f strength u r =
     late-then (believed u r) (passed own f strength)
     (late-then (collected r) (judged u)
-      (late-require (leb (length (r .symbols)) 96) Extent (ended-whole (r .ending) (r .symbols)) refl (late-ended (r .ending) (r .symbols))) (late-judged u))
+    (late-require (leb (length (r .symbols)) 96) Extent (ended-whole (r .ending) (r .symbols)) refl (late-ended (r .ending) (r .symbols))) (late-judged u))
     (late-passed own f strength)
 
 opens-late : (strength room : ℕ) (r : Result (List ℕ) Refusal) → Late r → opens (Read strength room) (read-outcome strength r) ≡ true
@@ -114,9 +114,10 @@ opens-late strength room (Err e) l = ap not l
 module _ (own : ℕ) (f : Filters) (strength room : ℕ) (h : Heard) where
   is-short : room < 66 → (reading own f strength room h ≡ Err Short) × (line-left room h ≡ h)
   is-short l =
-      let e = lt-leb 66 room l in
-      ( ap (λ b. require b Short (require (leb (unit h) 24) Unit-over (of-coming own f strength (unit h) (h .coming)))) e
-      , ap (λ b. cond (b && leb (unit h) 24) (listened h (h .coming)) h) e )
+      let e = lt-leb 66 room l in (
+        ap (λ b. require b Short (require (leb (unit h) 24) Unit-over (of-coming own f strength (unit h) (h .coming)))) e,
+        ap (λ b. cond (b && leb (unit h) 24) (listened h (h .coming)) h) e,
+      )
 
   module _ (long : 66 ≤ room) where
     roomy : leb 66 room ≡ true
@@ -130,9 +131,10 @@ module _ (own : ℕ) (f : Filters) (strength room : ℕ) (h : Heard) where
 
     is-wide : 24 < unit h → (reading own f strength room h ≡ Err Unit-over) × (line-left room h ≡ h)
     is-wide l =
-        let e = lt-leb (unit h) 24 l in
-        ( past-short ∙ ap (λ b. require b Unit-over (of-coming own f strength (unit h) (h .coming))) e
-        , left-over ∙ ap (λ b. cond b (listened h (h .coming)) h) e )
+        let e = lt-leb (unit h) 24 l in (
+          past-short ∙ ap (λ b. require b Unit-over (of-coming own f strength (unit h) (h .coming))) e,
+          left-over ∙ ap (λ b. cond b (listened h (h .coming)) h) e,
+        )
 
     module _ (small : unit h ≤ 24) where
       is-of : reading own f strength room h ≡ of-coming own f strength (unit h) (h .coming)
@@ -246,9 +248,9 @@ read-stops own f strength room h = record {
   wide = λ l w. ap (read-outcome strength) (is-wide own f strength room h l w .0);
   quiet = λ l s e. ap (read-outcome strength) (is-quiet own f strength room h l s (nth-none (h .coming) e) .0);
   goes-on = λ r l s e.
-    let p = nth-some (h .coming) r e in
-    ap (λ z. opens (Read strength room) (read-outcome strength z)) (is-read own f strength room h l s r (p .0) (p .1) .0)
-    ∙ opens-late strength room (received own f strength (unit h) r) (late-received own f strength (unit h) r);
+      let p = nth-some (h .coming) r e in
+      ap (λ z. opens (Read strength room) (read-outcome strength z)) (is-read own f strength room h l s r (p .0) (p .1) .0)
+      ∙ opens-late strength room (received own f strength (unit h) r) (late-received own f strength (unit h) r);
 }
 
 -- what was handed up is the message received
@@ -257,7 +259,7 @@ hands strength (Err e) m l = (λ z. absurd z, λ q. let z : _≡_ {A = ℕ} 0 1 
 hands strength (Ok n) m l =
     let part : take (length (payload n)) (buffer-left (Ok n) (replicate 66 0)) ≡ payload n = take-at (payload n) _ (length (payload n)) refl in
     let again : n ≡ message (kind n) (destination n) (source n) (take (length (payload n)) (buffer-left (Ok n) (replicate 66 0))) =
-        rebuilt n (l n refl) ∙ ap (message (kind n) (destination n) (source n)) (sym part) in
+    rebuilt n (l n refl) ∙ ap (message (kind n) (destination n) (source n)) (sym part) in
     (λ q. ap Ok (again ∙ sym q), λ q. let k : m ≡ n = cc in k ∙ again)
 
 across : {P Q : Type 0} → P ≡ Q → P → Q
@@ -272,12 +274,13 @@ read-hands own f strength room h some went = by (way own f strength room h)
         × ((m : List ℕ) → Iff (Hands-up (read-outcome strength (reading own f strength room h)) m) (Lawful m × Near (unit h) m r × (withheld own f strength m ≡ false)))
     by (halts e s a l) = absurd (clash (sym (ap (λ z. opens (Read strength room) (read-outcome strength z)) a ∙ ap not s) ∙ went))
     by (goes r rs long small e) =
-        let p = is-read own f strength room h long small r rs e .0 in
-        ( r
-        , ap (λ z. nth z 0) e
-        , λ m.
-          let x = exact own strength (unit h) f r m some small in
-          let k = hands strength (received own f strength (unit h) r) m (λ n q. exact own strength (unit h) f r n some small .0 q .0) in
-          let there : Hands-up (read-outcome strength (reading own f strength room h)) m ≡ Hands-up (read-outcome strength (received own f strength (unit h) r)) m =
+        let p = is-read own f strength room h long small r rs e .0 in (
+          r,
+          ap (λ z. nth z 0) e,
+          λ m.
+              let x = exact own strength (unit h) f r m some small in
+              let k = hands strength (received own f strength (unit h) r) m (λ n q. exact own strength (unit h) f r n some small .0 q .0) in
+              let there : Hands-up (read-outcome strength (reading own f strength room h)) m ≡ Hands-up (read-outcome strength (received own f strength (unit h) r)) m =
               ap (λ z. Hands-up (read-outcome strength z) m) p in
-          (λ q. x .0 (k .0 (across there q)), λ q. across (sym there) (k .1 (x .1 q))) )
+              (λ q. x .0 (k .0 (across there q)), λ q. across (sym there) (k .1 (x .1 q))),
+        )

@@ -33,7 +33,12 @@ pub fn run<L: Line, O: Outlet>(
 }
 
 /// Plays one order.
-fn play<L: Line, O: Outlet>(station: &mut Station, line: &mut L, outlet: &mut O, order: &Order) -> Outcome
+fn play<L: Line, O: Outlet>(
+    station: &mut Station,
+    line: &mut L,
+    outlet: &mut O,
+    order: &Order,
+) -> Outcome
     ensures own { λ _. ⌜ now (station .exit) .own ≡ now (station .entry) .own ⌝ }
     ensures step { λ r. ⌜ Step (O·Outlet .state) (now (station .entry) .own) (now (order .entry)) r (record { filters = now (station .entry) .filters; heard = L·Line .heard (now (line .entry)); outlet = now (outlet .entry) }) (record { filters = now (station .exit) .filters; heard = L·Line .heard (now (line .exit)); outlet = now (outlet .exit) }) ⌝ }
 {

@@ -22,8 +22,9 @@ returns-in-Err-send g c =
     let e = c .in-Err-send .ensures tt in
     record {
       own = refl;
-      step = subst (λ (z : Order). Step (g .O·Outlet .state) (st .own) z (Refused (c .in-Err-send .refusal)) (record { filters = st .filters; heard = h; outlet = o }) (record { filters = st .filters; heard = h; outlet = o′ })) (sym (c .in-Send .is))
-        ( send-refused (send-refusal p m (g .O·Outlet .state o)) (c .in-Err-send .refusal) (e .answers)
-        , refl
-        , subst (λ (z : Result (Unit {0}) Refusal). Leaves (Sent p m) (g .O·Outlet .state) z o o′) (e .answers) (e .leaves) );
+      step = subst (λ (z : Order). Step (g .O·Outlet .state) (st .own) z (Refused (c .in-Err-send .refusal)) (record { filters = st .filters; heard = h; outlet = o }) (record { filters = st .filters; heard = h; outlet = o′ })) (sym (c .in-Send .is)) (
+        send-refused (send-refusal p m (g .O·Outlet .state o)) (c .in-Err-send .refusal) (e .answers),
+        refl,
+        subst (λ (z : Result (Unit {0}) Refusal). Leaves (Sent p m) (g .O·Outlet .state) z o o′) (e .answers) (e .leaves),
+      );
     }

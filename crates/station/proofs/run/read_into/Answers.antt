@@ -22,9 +22,9 @@ returns-in-Ok g c =
     let after = c .read .last .buffer ++ drop (s - 0) (replicate 66 0) in
     record {
       answers = message-outcome (st .own) (st .filters) (c .args .strength) (c .args .room) (length part) h is (c .in-Ok .facts) part after (e .answers)
-        (ap (λ k. take k (replicate 66 0)) (sym sz))
-        (ap (λ b. b ++ drop (s - 0) (replicate 66 0)) (e .buffer)
-        ∙ ap (λ k. buffer-left (reading (st .own) (st .filters) (c .args .strength) (length part) h) part ++ drop k (replicate 66 0)) (sym sz));
+          (ap (λ k. take k (replicate 66 0)) (sym sz))
+          (ap (λ b. b ++ drop (s - 0) (replicate 66 0)) (e .buffer)
+          ∙ ap (λ k. buffer-left (reading (st .own) (st .filters) (c .args .strength) (length part) h) part ++ drop k (replicate 66 0)) (sym sz));
       left = e .left ∙ same-line (st .own) (st .filters) (c .args .strength) (c .args .room) (length part) h is;
     }
 

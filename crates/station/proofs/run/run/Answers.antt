@@ -51,11 +51,12 @@ loop-i-again g c =
     let a : Stand (g .O .Denot) = record { filters = c .in-Continue-station .station .filters; heard = g .L·Line .heard (c .args .line .now); outlet = c .args .outlet .now } in
     let b : Stand (g .O .Denot) = record { filters = c .loop-i .station .filters; heard = g .L·Line .heard (c .loop-i .line); outlet = c .loop-i .outlet } in
     let d : Stand (g .O .Denot) = record { filters = c .play .last .station .filters; heard = g .L·Line .heard (c .play .last .line); outlet = c .play .last .outlet } in
-    let step : Step (g .O·Outlet .state) own o x b d = subst (λ (z : ℕ). Step (g .O·Outlet .state) z o x b d) (inv .0) (c .play .ensures .step) in
-    ( c .play .ensures .own ∙ inv .0
-    , length-set xs i x ∙ inv .1
-    , drop-set-lt (i + 1) xs i x (omega arith) ∙ sym (drop-drop 1 i xs) ∙ ap (drop 1) (inv .2) ∙ drop-drop 1 i (c .args .outcomes .now)
-    , plays-next (g .O·Outlet .state) own os xs i o x a b d inside at room (inv .3) step )
+    let step : Step (g .O·Outlet .state) own o x b d = subst (λ (z : ℕ). Step (g .O·Outlet .state) z o x b d) (inv .0) (c .play .ensures .step) in (
+      c .play .ensures .own ∙ inv .0,
+      length-set xs i x ∙ inv .1,
+      drop-set-lt (i + 1) xs i x (omega arith) ∙ sym (drop-drop 1 i xs) ∙ ap (drop 1) (inv .2) ∙ drop-drop 1 i (c .args .outcomes .now),
+      plays-next (g .O·Outlet .state) own os xs i o x a b d inside at room (inv .3) step,
+    )
 
 pub returns : need.returns
 returns g c =
@@ -67,9 +68,9 @@ returns g c =
     let a : Stand (g .O .Denot) = record { filters = off; heard = h; outlet = c .args .outlet .now } in
     let b : Stand (g .O .Denot) = record { filters = c .loop-i .station .filters; heard = g .L·Line .heard (c .loop-i .line); outlet = c .loop-i .outlet } in
     let plays : Plays (g .O·Outlet .state) (c .args .own) (take (c .min-count .result) (c .args .orders .now)) (take (c .min-count .result) (c .loop-i .outcomes)) a b =
-        subst (λ (k : ℕ). Plays (g .O·Outlet .state) (c .args .own) (take k (c .args .orders .now)) (take k (c .loop-i .outcomes)) a b) all
-        (subst (λ (z : Filters). Plays (g .O·Outlet .state) (c .args .own) (take i (c .args .orders .now)) (take i (c .loop-i .outcomes)) (record { filters = z; heard = h; outlet = c .args .outlet .now }) b) (n .3)
-        (subst (λ (z : ℕ). Plays (g .O·Outlet .state) z (take i (c .args .orders .now)) (take i (c .loop-i .outcomes)) (record { filters = c .in-Continue-station .station .filters; heard = h; outlet = c .args .outlet .now }) b) (n .2) (inv .3))) in
+    subst (λ (k : ℕ). Plays (g .O·Outlet .state) (c .args .own) (take k (c .args .orders .now)) (take k (c .loop-i .outcomes)) a b) all
+    (subst (λ (z : Filters). Plays (g .O·Outlet .state) (c .args .own) (take i (c .args .orders .now)) (take i (c .loop-i .outcomes)) (record { filters = z; heard = h; outlet = c .args .outlet .now }) b) (n .3)
+    (subst (λ (z : ℕ). Plays (g .O·Outlet .state) z (take i (c .args .orders .now)) (take i (c .loop-i .outcomes)) (record { filters = c .in-Continue-station .station .filters; heard = h; outlet = c .args .outlet .now }) b) (n .2) (inv .3))) in
     record {
       ran = (n .0, n .1, c .min-count .ensures, ap (λ k. drop k (c .loop-i .outcomes)) (sym all) ∙ inv .2 ∙ ap (λ k. drop k (c .args .outcomes .now)) all, (c .loop-i .station .filters, plays));
       law = law (g .O·Outlet .state) (c .args .own) _ _ a b refl (g .L·Line .sound (c .args .line .now)) plays;
