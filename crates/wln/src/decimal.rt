@@ -1,5 +1,8 @@
+ghost use mathlib.Core.Bool.{cond};
+ghost use mathlib.Core.List.{[]};
 ghost use mathlib.Core.Path.{_≡_};
 ghost use Prim.Native.Nat.{_+_, _*_, _<_};
+ghost use lib.Chars.{codes};
 ghost use lib.IntN.{pos, natAbs};
 ghost use lib.Signed.{ltZ};
 
@@ -13,7 +16,7 @@ pub struct Decimal {
 
 impl Decimal {
     /// `n` parts, `parts` of which are one.
-    pub fn of(n: i16, parts: u16) -> Decimal
+    pub(crate) fn of(n: i16, parts: u16) -> Decimal
         requires { ⌜ 0 < parts ⌝ }
         ensures sign { λ r. ⌜ r .negative ≡ ltZ n (pos 0) ⌝ }
         ensures size { λ r. ⌜ parts * r .whole + r .fraction ≡ natAbs n ⌝ }
@@ -28,7 +31,9 @@ impl Decimal {
     }
 
     /// What stands in front of the figures.
-    pub fn sign(self) -> &'static str {
+    pub(crate) fn sign(self) -> &'static str
+        ensures { λ r. ⌜ now r ≡ cond (self .negative) (codes "-") [] ⌝ }
+    {
         if self.negative { "-" } else { "" }
     }
 }
