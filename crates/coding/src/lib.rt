@@ -1,4 +1,6 @@
 //! Codings of octet groups: what a layer makes of the octets above and of the symbols below.
+#![tactic(auto)]
+
 ghost use Rattle.std.specs.Prelude.{◌≡◌, ℕ, ◌*◌, min, take};
 ghost use Rattle.coding.specs.Grouping.{Grouping};
 

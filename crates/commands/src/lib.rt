@@ -1,4 +1,6 @@
 //! The commands: each line of input is read as a command, then done, and what came of it is printed.
+#![tactic(auto)]
+
 mod bodies;
 mod command;
 pub mod console;

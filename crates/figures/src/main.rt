@@ -1,5 +1,7 @@
 //! figures: worked figures that are proved from the definitions, and a transcript of commands with the answers that
 //! another coder gave, held against the library.
+#![tactic(auto)]
+
 mod checker;
 mod recorded;
 mod sent;

@@ -1,4 +1,6 @@
 //! The bottom lines: what was heard as octets, and what was heard as bits.
+#![tactic(auto)]
+
 pub mod bit_line;
 mod bits;
 mod here;

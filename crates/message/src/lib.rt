@@ -1,4 +1,6 @@
 //! The message format: a checked header, a draft, a sealed message.
+#![tactic(auto)]
+
 mod buffer;
 pub mod draft;
 pub mod header;

@@ -1,4 +1,6 @@
 //! What a radio line, an outlet and a pile of layers mean, and writing whole messages into any outlet.
+#![tactic(auto)]
+
 pub mod line;
 pub mod outlet;
 pub mod piles;

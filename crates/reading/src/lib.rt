@@ -1,4 +1,6 @@
 //! The reading half of a layer: over any line, itself a line.
+#![tactic(auto)]
+
 ghost use Rattle.std.specs.Prelude.{◌≤◌};
 
 use coding::Coding;

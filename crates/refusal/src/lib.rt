@@ -1,4 +1,6 @@
 //! The closed list of refusals: every way in which a call of the library says no.
+#![tactic(auto)]
+
 ghost use Rattle.std.specs.Prelude.{◌≡◌, Some};
 ghost use Rattle.refusal.specs.Names.{title, cause_number, cause_name, refusal_text};
 ghost use Rattle.refusal.specs.declared.Refusal.TheVariants.{Fault as Faulty};

@@ -1,4 +1,6 @@
 //! The sending half of a layer: over any outlet, itself an outlet.
+#![tactic(auto)]
+
 ghost use Rattle.std.specs.Prelude.{◌≡◌, length};
 
 use coding::Coding;

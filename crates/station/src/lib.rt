@@ -1,4 +1,6 @@
 //! The station: its filters, and the read that believes a message or turns it down.
+#![tactic(auto)]
+
 mod collect;
 pub mod exact;
 mod fields;

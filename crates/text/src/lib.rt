@@ -1,4 +1,6 @@
 //! Text: the words of a line, the numbers and octets in them, and how these are written.
+#![tactic(auto)]
+
 pub mod hex;
 pub mod number;
 pub mod shown;

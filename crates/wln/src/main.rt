@@ -1,4 +1,6 @@
 //! wln: reads commands from standard input, one to a line, and prints what was done.
+#![tactic(auto)]
+
 mod bodies;
 mod body_lines;
 mod command;

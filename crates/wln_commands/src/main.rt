@@ -1,4 +1,6 @@
 //! wln: reads commands from standard input, one to a line, and prints what was done.
+#![tactic(auto)]
+
 mod terminal;
 
 use crate::terminal::Terminal;
