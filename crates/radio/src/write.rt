@@ -7,8 +7,8 @@ use refusal::Refusal;
 
 /// Puts octets one after the other: all of them, or none where fewer are owed.
 pub fn put_all<O: Outlet>(outlet: &mut O, octets: &[u8]) -> Result<(), Refusal>
-    ensures answers { result ≡ answer (put_refusal (length octets.now) (state outlet.old).turn) }
-    ensures leaves { Leaves (Put octets.now) state result outlet.old outlet.new }
+    ensures answers { result ≡ answer (put_refusal (length octets.now) (O.Outlet.state outlet.old).turn) }
+    ensures leaves { Leaves (Put octets.now) O.Outlet.state result outlet.old outlet.new }
 {
     match outlet.turn_of() {
         Turn::Owing(n) if octets.len() <= n as usize => {}
@@ -22,8 +22,8 @@ pub fn put_all<O: Outlet>(outlet: &mut O, octets: &[u8]) -> Result<(), Refusal>
 
 /// Writes one whole message: begins it, puts its octets, and ends it.
 pub fn write_message<O: Outlet>(outlet: &mut O, preamble: u16, octets: &[u8]) -> Result<(), Refusal>
-    ensures answers { result ≡ answer (begin_refusal preamble (length octets.now) (state outlet.old)) }
-    ensures leaves { Leaves (Written preamble octets.now) state result outlet.old outlet.new }
+    ensures answers { result ≡ answer (begin_refusal preamble (length octets.now) (O.Outlet.state outlet.old)) }
+    ensures leaves { Leaves (Written preamble octets.now) O.Outlet.state result outlet.old outlet.new }
 {
     outlet.begin(preamble, octets.len())?;
     put_all(outlet, octets)?;

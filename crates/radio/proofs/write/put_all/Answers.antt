@@ -11,11 +11,11 @@ loop-x-init g c = put_none (g.O.Outlet.state c.args.outlet.now) (g.O.Outlet.soun
 pub loop-x-preserved : goal.loop-x-preserved
 loop-x-preserved g c =
     put_more c.args.octets.now c.loop-x.x-index _ (g.O.Outlet.state c.args.outlet.now) (g.O.Outlet.state c.loop-x.outlet) (g.O.Outlet.state c.put.new.self)
-    c.loop-x-test.true refl c.loop-x.invariant c.in-ok-put.ensures.leaves
+    c.loop-x-test.true refl c.loop-x.invariant c.in_ok-put.ensures.leaves
 
 -- as many octets are owed as there are
-pub returns-in-err-put : goal.returns-in-err-put
-returns-in-err-put g c =
+pub returns-in_err-put : goal.returns-in_err-put
+returns-in_err-put g c =
     let xs = c.args.octets.now in
     let i = c.loop-x.x-index in
     let n = c.in-Owing.n in
@@ -24,7 +24,7 @@ returns-in-err-put g c =
     let below : i < length xs = c.loop-x-test.true in
     let owed : t ≡ Owing (n - length (take i xs)) = c.loop-x.invariant.turn ∙ ap (λ u. less u (length (take i xs))) (sym c.in-Owing.ensures) in
     let ok : Ok tt ≡ answer (put_refusal 1 t) = put_accepted 1 (n - length (take i xs)) t owed (omega arith) in
-    let no = c.in-err-put.ensures.answers in
+    let no = c.in_err-put.ensures.answers in
     let z : ◌≡◌ {A = ℕ} 0 1 = cc in
     absurd (omega arith)
 

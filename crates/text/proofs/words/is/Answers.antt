@@ -7,5 +7,5 @@ use Rattle.text.proofs.words.is.Goals as goal
 pub returns : goal.returns
 returns c =
     let w = c.args.word.now in
-    let n = c.as-bytes.result.now in
-    same_from_decides c.eq.result (bytes_eq w n) (slice_eq-Decides Decides-eqb w n c.eq.result c.eq.ensures) (bytes_eq-Decides w n) ∙ ap (bytes_eq w) c.as-bytes.ensures.value
+    let n = c.as_bytes.result.now in
+    same_from_decides c.eq.result (bytes_eq w n) (slice_eq-Decides Decides-eqb w n c.eq.result c.eq.ensures) (bytes_eq-Decides w n) ∙ ap (bytes_eq w) c.as_bytes.ensures.value

@@ -24,18 +24,18 @@ made c =
     let b₀ = c.empty-octets.result in
     let b₁ = c.append.new.self in
     let b₂ = c.append-2.new.self in
-    let given : c.as-slice-payload.result.now ≡ p = c.as-slice-payload.ensures in
+    let given : c.as_slice-payload.result.now ≡ p = c.as_slice-payload.ensures in
     let top : items c.head-head.result ≡ head h.kind h.destination h.source (length p) =
     c.head-head.ensures ∙ ap (λ xs. head h.kind h.destination h.source (length xs)) given in
     sealed_is h.kind h.destination h.source p (fields c)
-    c.as-slice.result.now (items b₀) (items b₁) (items b₂) (items c.append-3.new.self) c.to-be-bytes.result c.append.result c.append-2.result c.append-3.result c.checksum-sum.result
-    (c.as-slice.ensures ∙ top) c.empty-octets.ensures.holds
-    (c.append.ensures.fits ∙ ap (λ n. leb (n + length c.as-slice.result.now) 74) (sym (items_length b₀)))
+    c.as_slice.result.now (items b₀) (items b₁) (items b₂) (items c.append-3.new.self) c.to_be_bytes.result c.append.result c.append-2.result c.append-3.result c.checksum-sum.result
+    (c.as_slice.ensures ∙ top) c.empty-octets.ensures.holds
+    (c.append.ensures.fits ∙ ap (λ n. leb (n + length c.as_slice.result.now) 74) (sym (items_length b₀)))
     c.append.ensures.holds
-    (c.append-2.ensures.fits ∙ ap (λ n. leb (n + length c.as-slice-payload.result.now) 74) (sym (items_length b₁)) ∙ ap (λ xs. leb (length (items b₁) + length xs) 74) given)
+    (c.append-2.ensures.fits ∙ ap (λ n. leb (n + length c.as_slice-payload.result.now) 74) (sym (items_length b₁)) ∙ ap (λ xs. leb (length (items b₁) + length xs) 74) given)
     (c.append-2.ensures.holds ∙ ap (λ xs. cond c.append-2.result (items b₁ ++ xs) (items b₁)) given)
-    (c.checksum-sum.ensures ∙ ap (λ xs. sum xs % 65536) c.as-slice-2.ensures) c.to-be-bytes.ensures
-    (c.append-3.ensures.fits ∙ ap (λ n. leb (n + length c.to-be-bytes.result) 74) (sym (items_length b₂)))
+    (c.checksum-sum.ensures ∙ ap (λ xs. sum xs % 65536) c.as_slice-2.ensures) c.to_be_bytes.ensures
+    (c.append-3.ensures.fits ∙ ap (λ n. leb (n + length c.to_be_bytes.result) 74) (sym (items_length b₂)))
     c.append-3.ensures.holds
 
 pub returns : goal.returns

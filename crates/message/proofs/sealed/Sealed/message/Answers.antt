@@ -8,6 +8,6 @@ pub returns : goal.returns
 returns c =
     let s = c.args.self.now in
     record {
-      held = c.as-slice.ensures;
-      lawful = subst (λ (m : List ℕ). Lawful m) (sym c.as-slice.ensures) ((lawful_tested (items s.octets)).0 s.lawful);
+      held = c.as_slice.ensures;
+      lawful = subst (λ (m : List ℕ). Lawful m) (sym c.as_slice.ensures) ((lawful_tested (items s.octets)).0 s.lawful);
     }

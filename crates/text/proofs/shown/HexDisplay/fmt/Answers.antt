@@ -4,11 +4,6 @@ use Rattle.text.specs.Texts.{octet_text, pairs_text, octets_text}
 use Rattle.text.proofs.Printing.{pairs_more, pairs_all, put_none, none_text}
 use Rattle.text.proofs.shown.HexDisplay.fmt.Goals as goal
 
-pub returns-then-is-empty-clause-writes : goal.returns-then-is-empty-clause-writes
-returns-then-is-empty-clause-writes g c plain ok =
-    let xs = c.args.self.now.0.now in
-    has_written_of_eq g.W.Write.write_str_gives c.args.f.now (codes "-") (octets_text xs) c.write-str.new.self (none_text xs (sym c.is-empty.ensures ∙ c.if-is-empty.true)) (c.write-str.ensures.writes plain ok)
-
 pub loop-x-init : goal.loop-x-init
 loop-x-init g c plain = put_none g.W.Write.write_str_gives c.args.f.now plain
 
@@ -17,10 +12,5 @@ loop-x-preserved g c plain =
     let xs = c.args.self.now.0.now in
     let i = c.loop-x.x-index in
     let so_far = c.loop-x.invariant plain in
-    has_written_of_eq g.W.Write.write_str_gives c.args.f.now _ _ c.write-octet.new.f (pairs_more xs i c.loop-x-test.true)
-    (has_written_append g.W.Write.write_str_gives c.args.f.now (pairs_text (take i xs)) c.loop-x.f (octet_text (get_or xs i 0)) c.write-octet.new.f so_far (c.in-ok-write-octet.ensures so_far.plain (refl {a = true})))
-
-pub returns-clause-writes : goal.returns-clause-writes
-returns-clause-writes g c plain ok =
-    let xs = c.args.self.now.0.now in
-    has_written_of_eq g.W.Write.write_str_gives c.args.f.now _ _ c.loop-x.f (pairs_all xs c.loop-x.x-index c.loop-x-test.false (sym c.is-empty.ensures ∙ c.if-is-empty.false)) (c.loop-x.invariant plain)
+    has_written_of_eq g.W.Write.write_str_gives c.args.f.now _ _ c.write_octet.new.f (pairs_more xs i c.loop-x-test.true)
+    (has_written_append g.W.Write.write_str_gives c.args.f.now (pairs_text (take i xs)) c.loop-x.f (octet_text (get_or xs i 0)) c.write_octet.new.f so_far (c.in_ok-write_octet.ensures so_far.plain (refl {a = true})))
