@@ -8,7 +8,7 @@ use Rattle.coding.specs.Statements.{Decoding}
 use Rattle.coding.proofs.laws.layers_hold.Goals as goal
 
 some_coded : (c : Grouping) → 1 ≤ c.coded
-some_coded c = omega (arith, c.some, c.no-less)
+some_coded c = omega (arith, c.some, c.no_less)
 
 decodes : (c : Grouping) (below : Reception) → Decoding c below (decoded c below)
 decodes c below = record {

@@ -25,7 +25,7 @@ loop-place-preserved c =
     let xs = c.args.bytes.now in
     let p = c.loop-place.place in
     let rest = drop p (bits_of xs) in
-    let seen = looked (bits (8 * length xs - p) c.window.result) rest None c.window.ensures c.in-default.ensures in
+    let seen = looked (bits (8 * length xs - p) c.window.result) rest None c.window.ensures c.in_default.ensures in
     (omega arith, c.loop-place.invariant.1 ∙ passed 10 rest seen ∙ ap (receptions_from 0) (drop-drop 10 p (bits_of xs)))
 
 pub returns : goal.returns

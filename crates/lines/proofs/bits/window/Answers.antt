@@ -14,15 +14,15 @@ pub returns : goal.returns
 returns c =
     let xs = c.args.bytes.now in
     let p = c.args.place in
-    let small : (i : ℕ) → get_or xs i 0 < 256 = λ i. search (rules, c.type-inv.bytes i) in
-    let a = c.byte-at.ensures in
-    let b = c.byte-at-2.ensures in
-    let d = c.byte-at-3.ensures in
-    let e = c.byte-at-4.ensures in
-    let f = c.byte-at-5.ensures in
+    let small : (i : ℕ) → get_or xs i 0 < 256 = λ i. search (rules, c.type_inv.bytes i) in
+    let a = c.byte_at.ensures in
+    let b = c.byte_at-2.ensures in
+    let d = c.byte_at-3.ensures in
+    let e = c.byte_at-4.ensures in
+    let f = c.byte_at-5.ensures in
     let n = small (p / 8 + 1) in
     let n2 = small (p / 8 + 2) in
     let n3 = small (p / 8 + 3) in
     let n4 = small (p / 8 + 4) in
-    let s = shifted c.byte-at.result c.byte-at-2.result c.byte-at-3.result c.byte-at-4.result c.byte-at-5.result (omega arith) (omega arith) (omega arith) (omega arith) in
+    let s = shifted c.byte_at.result c.byte_at-2.result c.byte_at-3.result c.byte_at-4.result c.byte_at-5.result (omega arith) (omega arith) (omega arith) (omega arith) in
     ap (λ v. take 29 (bits (8 * length xs - p) v)) (and_mask _ 29) ∙ window_at xs small p _ (s ∙ cc)

@@ -7,4 +7,4 @@ octets_fit [] f = tt
 octets_fit (x ∷ xs) f = ((f zero).fits, octets_fit xs (λ i. f (suc i)))
 
 pub returns : goal.returns
-returns c = octets_fit c.args.bytes.now c.type-inv.bytes
+returns c = octets_fit c.args.bytes.now c.type_inv.bytes

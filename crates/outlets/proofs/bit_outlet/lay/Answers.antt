@@ -18,7 +18,7 @@ returns c =
     let small : x < 256 = search rules in
     record {
       laid = ap bits_of c.store.ensures.items ∙ two_laid ms q x y fits (get_or_read ms q x (omega arith) c.index.ensures 0) (get_or_read ms (q + 1) y fits c.index-2.ensures 0)
-          s c.framed-over-laid.result (frame c.args.octet) (omega arith) refl small c.framed-over-laid.ensures
+          s c.framed_over-laid.result (frame c.args.octet) (omega arith) refl small c.framed_over-laid.ensures
           ∙ ap (λ k. written_at (bits_of ms) k (frame c.args.octet)) at;
       len = c.store.ensures.len;
     }

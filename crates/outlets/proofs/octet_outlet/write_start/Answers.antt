@@ -10,8 +10,8 @@ pub loop-i-preserved : goal.loop-i-preserved
 loop-i-preserved c =
     let e = c.args.memory.now.ok.0 in
     let h : c.args.place + c.loop-i.i < length c.args.memory.now.items = omega arith in (
-      c.write-at.ensures.items ∙ more_240 c.args.memory.now.items c.loop-i.memory.items c.args.place c.loop-i.i c.loop-i.invariant.0 h,
-      c.write-at.ensures.len ∙ c.loop-i.invariant.1,
+      c.write_at.ensures.items ∙ more_240 c.args.memory.now.items c.loop-i.memory.items c.args.place c.loop-i.i c.loop-i.invariant.0 h,
+      c.write_at.ensures.len ∙ c.loop-i.invariant.1,
     )
 
 pub returns : goal.returns
@@ -22,6 +22,6 @@ returns c =
     let w : c.loop-i.memory.items ≡ written_at c.args.memory.now.items c.args.place (replicate c.args.preamble 240) =
     c.loop-i.invariant.0 ∙ ap (λ j. written_at c.args.memory.now.items c.args.place (replicate j 240)) i in
     record {
-      items = c.write-at-2.ensures.items ∙ then_204 c.args.memory.now.items c.loop-i.memory.items c.args.place c.args.preamble w h;
-      len = c.write-at-2.ensures.len ∙ c.loop-i.invariant.1;
+      items = c.write_at-2.ensures.items ∙ then_204 c.args.memory.now.items c.loop-i.memory.items c.args.place c.args.preamble w h;
+      len = c.write_at-2.ensures.len ∙ c.loop-i.invariant.1;
     }

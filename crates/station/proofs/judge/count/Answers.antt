@@ -6,25 +6,25 @@ use Rattle.station.specs.Nearness.{rounded}
 use Rattle.station.proofs.Judged.{passes, not_blank, all_blank}
 use Rattle.station.proofs.judge.count.Goals as goal
 
-pub returns-then-not-is-blank : goal.returns-then-not-is-blank
-returns-then-not-is-blank c =
+pub returns-then-not-is_blank : goal.returns-then-not-is_blank
+returns-then-not-is_blank c =
     let ss = c.args.symbols.now in
-    let n = c.number-of-number.result in
-    let few = passes (few_spoiled ss) Spoilt (Ok tt) tt c.in-ok-check-spoiled.ensures in
-    not_blank c.args.unit ss n c.number-of-number.ensures.value few c.if-number-lt6.false c.if-number-gt74.false (sym c.round-up.ensures.value ∙ c.if-round-up-symbols.false)
-    (ap blank (sym (take_rest ss n)) ∙ sym c.is-blank.ensures ∙ c.if-not-is-blank.true)
+    let n = c.number_of-number.result in
+    let few = passes (few_spoiled ss) Spoilt (Ok tt) tt c.in_ok-check_spoiled.ensures in
+    not_blank c.args.unit ss n c.number_of-number.ensures.value few c.if-number-lt6.false c.if-number-gt74.false (sym c.round_up.ensures.value ∙ c.if-round_up-symbols.false)
+    (ap blank (sym (take_rest ss n)) ∙ sym c.is_blank.ensures ∙ c.if-not-is_blank.true)
 
 pub returns : goal.returns
 returns c =
     let ss = c.args.symbols.now in
-    let n = c.number-of-number.result in
-    let few = passes (few_spoiled ss) Spoilt (Ok tt) tt c.in-ok-check-spoiled.ensures in
-    let round = sym c.round-up.ensures.value ∙ c.if-round-up-symbols.false in
+    let n = c.number_of-number.result in
+    let few = passes (few_spoiled ss) Spoilt (Ok tt) tt c.in_ok-check_spoiled.ensures in
+    let round = sym c.round_up.ensures.value ∙ c.if-round_up-symbols.false in
     record {
       least = c.if-number-lt6.false;
       most = c.if-number-gt74.false;
-      there = omega (arith, c.round-up.ensures.least, c.if-round-up-symbols.false);
+      there = omega (arith, c.round_up.ensures.least, c.if-round_up-symbols.false);
       few = few;
-      left = all_blank c.args.unit ss n c.number-of-number.ensures.value few c.if-number-lt6.false c.if-number-gt74.false round
-          (ap blank (sym (take_rest ss n)) ∙ sym c.is-blank.ensures ∙ c.if-not-is-blank.false);
+      left = all_blank c.args.unit ss n c.number_of-number.ensures.value few c.if-number-lt6.false c.if-number-gt74.false round
+          (ap blank (sym (take_rest ss n)) ∙ sym c.is_blank.ensures ∙ c.if-not-is_blank.false);
     }

@@ -17,7 +17,7 @@ loop-i-preserved c =
     let ss = c.args.symbols.now in
     let i = c.loop-i.i in
     let here : spoiled_place (drop i ss) ≡ 1 + spoiled_place (drop (i + 1) ss) =
-    at_drop_more spoiled_place ss i (Clean 0) c.loop-i-test.true ∙ ap (λ s. spoiled_place (s ∷ drop (i + 1) ss)) c.in-default.is in
+    at_drop_more spoiled_place ss i (Clean 0) c.loop-i-test.true ∙ ap (λ s. spoiled_place (s ∷ drop (i + 1) ss)) c.in_default.is in
     let before : spoiled_place ss ≡ i + spoiled_place (drop i ss) = c.loop-i.invariant in
     let after : spoiled_place ss ≡ i + 1 + spoiled_place (drop (i + 1) ss) = omega arith in
     after

@@ -4,7 +4,7 @@ use Rattle.std.proofs.lemmas.Bool.{and_left, ne_eqb, eq-eqb}
 use Rattle.radio.specs.declared.symbol.Symbol.TheVariants.{Clean, Spoiled}
 use Rattle.station.specs.Judging.{blank}
 use Rattle.station.proofs.judge.is_blank.Goals as goal
-use Rattle.station.proofs.judge.is_blank.Goals.{in-Clean+else-value-ne0, in-default}
+use Rattle.station.proofs.judge.is_blank.Goals.{in-Clean+else-value-ne0, in_default}
 
 pub returns : goal.returns
 returns c = sym (at_drop_all blank c.args.symbols.now c.loop-symbol.symbol-index c.loop-symbol-test.false) ∙ c.loop-symbol.invariant
@@ -24,6 +24,6 @@ loop-symbol-preserved c =
     let zero_first : blank (get_or ss i (Clean 0) ∷ drop (i + 1) ss) ≡ blank (drop (i + 1) ss) =
     elim c.match-symbol.branch [
       | in-Clean+else-value-ne0 w ↦ ap (λ s. blank (s ∷ drop (i + 1) ss)) w.in-Clean.is ∙ ap (λ b. b && blank (drop (i + 1) ss)) (eq-eqb w.in-Clean.value 0 w.if-value-ne0.false)
-      | in-default w ↦ ap (λ s. blank (s ∷ drop (i + 1) ss)) w.in-default.is
+      | in_default w ↦ ap (λ s. blank (s ∷ drop (i + 1) ss)) w.in_default.is
     ] in
     sym (step ∙ zero_first)

@@ -11,11 +11,11 @@ returns c =
     let n = length ss in
     let xs = c.fill.new.octets in
     let part : take (n - 0) xs ≡ filled 0 ss = ap (λ k. take k xs) (omega arith) ∙ c.fill.ensures in
-    let place = c.first-spoiled.ensures.place in
-    let same : mended ss ≡ sum_checked (set (take (n - 0) xs) c.first-spoiled.result (missing_octet c.first-spoiled.result (take (n - 0) xs))) =
+    let place = c.first_spoiled.ensures.place in
+    let same : mended ss ≡ sum_checked (set (take (n - 0) xs) c.first_spoiled.result (missing_octet c.first_spoiled.result (take (n - 0) xs))) =
     ap sum_checked (filled_set (missing_octet (spoiled_place ss) (filled 0 ss)) ss c.requires.2)
     ∙ ap (λ i. sum_checked (set (filled 0 ss) i (missing_octet i (filled 0 ss)))) (sym place)
-    ∙ ap (λ m. sum_checked (set m c.first-spoiled.result (missing_octet c.first-spoiled.result m))) (sym part) in
+    ∙ ap (λ m. sum_checked (set m c.first_spoiled.result (missing_octet c.first_spoiled.result m))) (sym part) in
     let full : length xs ≡ 74 = search rules in
     let whole : length (take (n - 0) xs) ≡ n - 0 = length-take-le (n - 0) xs (omega (arith, c.requires.1)) in
     let long : length c.mend.new.octets ≡ n = omega (arith, c.mend.auto.octets) in

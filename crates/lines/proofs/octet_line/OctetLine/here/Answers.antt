@@ -15,19 +15,19 @@ returns-then-self c =
     takes_end s.begun (reception_from s.given rest) (to_come s.quiet (receptions rest)) (made_at Dry s.given) c.requires
     (dry_at s.bytes.now s.place s.given c.if-self.true)
 
-pub returns-then-sign-at : goal.returns-then-sign-at
-returns-then-sign-at c =
+pub returns-then-sign_at : goal.returns-then-sign_at
+returns-then-sign_at c =
     let s = c.args.self.now in
     let rest = drop s.place s.bytes.now in
     takes_end s.begun (reception_from s.given rest) (to_come s.quiet (receptions rest)) (made_at Cut s.given) c.requires
-    (cut_at s.bytes.now s.place s.given (sym c.if-sign-at.ensures))
+    (cut_at s.bytes.now s.place s.given (sym c.if-sign_at.ensures))
 
 pub returns-then-octet-eq-END : goal.returns-then-octet-eq-END
 returns-then-octet-eq-END c =
     let s = c.args.self.now in
     let rest = drop s.place s.bytes.now in
     takes_end s.begun (reception_from s.given rest) (to_come s.quiet (receptions rest)) whole c.requires
-    (whole_at s.bytes.now s.place s.given c.if-self.false (sym c.if-sign-at.ensures) (eq-eqb _ 0x33 c.if-octet-eq-END.true))
+    (whole_at s.bytes.now s.place s.given c.if-self.false (sym c.if-sign_at.ensures) (eq-eqb _ 0x33 c.if-octet-eq-END.true))
 
 pub returns : goal.returns
 returns c =
@@ -35,7 +35,7 @@ returns c =
     let rest = drop s.place s.bytes.now in
     let more = drop (s.place + 1) s.bytes.now in
     let octet = Clean (get_or s.bytes.now s.place 0) in
-    let free = sym c.if-sign-at.ensures in (
+    let free = sym c.if-sign_at.ensures in (
       omega arith,
       takes_next s.begun (reception_from s.given rest) (reception_from (s.given + 1) more) (to_come s.quiet (receptions rest)) (to_come s.quiet (receptions more)) octet c.requires
           (octet_at s.bytes.now s.place s.given c.if-self.false free (ne_eqb _ 0x33 c.if-octet-eq-END.false))

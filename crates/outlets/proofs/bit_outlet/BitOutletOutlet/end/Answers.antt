@@ -5,12 +5,12 @@ use Rattle.outlets.proofs.Cells.{bottom_ended}
 use Rattle.outlets.proofs.Frames.{one_lays, one_framed}
 use Rattle.outlets.proofs.bit_outlet.BitOutletOutlet.end.Goals as goal
 
-pub invariant-of-self : goal.invariant-of-self
-invariant-of-self c =
+pub invariant_of-self : goal.invariant_of-self
+invariant_of-self c =
     let s = c.args.self.now in
     let n = c.lay.ensures.len in
     let fits : 10 * (s.used + 1) ≤ 8 * length s.memory.items = search rules in
-    (s.few, (search rules, (one_framed s.memory.items c.lay.new.memory.items s.used 51 fits s.framed (lit< tt) c.lay.ensures.laid, tt)))
+    record { few = s.few; fits = search rules; framed = one_framed s.memory.items c.lay.new.memory.items s.used 51 fits s.framed (lit< tt) c.lay.ensures.laid }
 
 pub returns : goal.returns
 returns c =

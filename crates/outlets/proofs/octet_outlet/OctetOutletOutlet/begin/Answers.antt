@@ -14,6 +14,6 @@ returns c =
     let l = length_start p in
     record {
       answers = search rules;
-      leaves = bottom_begun one_cell (take s.used m) m (take k c.write-start.new.memory.items) c.write-start.new.memory.items p c.args.count
-          (octets_lay m s.used (start p) k c.write-start.new.memory.items (omega arith) fits c.write-start.ensures.items) s.turn s.room;
+      leaves = bottom_begun one_cell (take s.used m) m (take k c.write_start.new.memory.items) c.write_start.new.memory.items p c.args.count
+          (octets_lay m s.used (start p) k c.write_start.new.memory.items (omega arith) fits c.write_start.ensures.items) s.turn s.room;
     }

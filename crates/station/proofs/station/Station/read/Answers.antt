@@ -11,20 +11,20 @@ use Rattle.station.proofs.station.Station.read.Goals as goal
 pub receive-requires : goal.receive-requires
 receive-requires g c =
     let h = g.L.Line.heard c.args.line.now in
-    let e = unit_is h c.unit-of-unit.result c.unit-of-unit.ensures c.if-unit-gt24.false in
+    let e = unit_is h c.unit_of-unit.result c.unit_of-unit.ensures c.if-unit-gt24.false in
     (omega (arith, unit_some h (g.L.Line.sound c.args.line.now)), c.if-unit-gt24.false)
 
-pub returns-in-err-facts : goal.returns-in-err-facts
-returns-in-err-facts g c =
+pub returns-in_err-facts : goal.returns-in_err-facts
+returns-in_err-facts g c =
     let s = c.args.self.now in
     let h = g.L.Line.heard c.args.line.now in
     let room = length c.args.buffer.now in
-    let u = c.unit-of-unit.result in
-    let is = unit_is h u c.unit-of-unit.ensures c.if-unit-gt24.false in
-    let o = c.in-ok-open.ensures in
+    let u = c.unit_of-unit.result in
+    let is = unit_is h u c.unit_of-unit.ensures c.if-unit-gt24.false in
+    let o = c.in_ok-open.ensures in
     let left = c.receive.ensures.left ∙ ap (past 97) o.left ∙ sym (line_is s.own s.filters c.args.strength room h c.if-buffer-lt66.false u is c.if-unit-gt24.false o.answers) in
-    let e = err_from_is_err_and c.from-residual-in-err-facts.result c.from-residual-in-err-facts.ensures.1 in
-    let not = ap (λ z. believed u z.present) (sym o.left) ∙ c.in-err-facts.ensures.answers ∙ ap Err (sym e.2) in
+    let e = err_from_is_err_and c.from_residual-in_err-facts.result c.from_residual-in_err-facts.ensures.1 in
+    let not = ap (λ z. believed u z.present) (sym o.left) ∙ c.in_err-facts.ensures.answers ∙ ap Err (sym e.2) in
     let answer = read_refused s.own s.filters c.args.strength room h c.if-buffer-lt66.false u is c.if-unit-gt24.false o.answers e.0 not in
     record {
       answers = e.1 ∙ sym (ap (told c.args.strength) answer);
@@ -32,20 +32,20 @@ returns-in-err-facts g c =
       left = left;
     }
 
-pub returns-in-err-pass : goal.returns-in-err-pass
-returns-in-err-pass g c =
+pub returns-in_err-pass : goal.returns-in_err-pass
+returns-in_err-pass g c =
     let s = c.args.self.now in
     let h = g.L.Line.heard c.args.line.now in
     let room = length c.args.buffer.now in
-    let u = c.unit-of-unit.result in
-    let is = unit_is h u c.unit-of-unit.ensures c.if-unit-gt24.false in
-    let o = c.in-ok-open.ensures in
+    let u = c.unit_of-unit.result in
+    let is = unit_is h u c.unit_of-unit.ensures c.if-unit-gt24.false in
+    let o = c.in_ok-open.ensures in
     let left = c.receive.ensures.left ∙ ap (past 97) o.left ∙ sym (line_is s.own s.filters c.args.strength room h c.if-buffer-lt66.false u is c.if-unit-gt24.false o.answers) in
-    let facts = c.in-ok-facts.facts in
-    let stands = subst (λ (z : Heard). Stands u c.args.strength z.present facts c.receive.new.octets) o.left c.in-ok-facts.ensures.answers in
-    let e = err_from_is_err_and c.from-residual-in-err-pass.result c.from-residual-in-err-pass.ensures.1 in
+    let facts = c.in_ok-facts.facts in
+    let stands = subst (λ (z : Heard). Stands u c.args.strength z.present facts c.receive.new.octets) o.left c.in_ok-facts.ensures.answers in
+    let e = err_from_is_err_and c.from_residual-in_err-pass.result c.from_residual-in_err-pass.ensures.1 in
     let answer = read_withheld s.own s.filters c.args.strength room h c.if-buffer-lt66.false u is c.if-unit-gt24.false o.answers facts c.receive.new.octets stands e.0
-    (ap Err e.2 ∙ c.in-err-pass.ensures) in
+    (ap Err e.2 ∙ c.in_err-pass.ensures) in
     record {
       answers = e.1 ∙ sym (ap (told c.args.strength) answer);
       buffer = sym (ap (λ z. buffer_left z c.args.buffer.now) answer);
@@ -57,17 +57,17 @@ returns g c =
     let s = c.args.self.now in
     let h = g.L.Line.heard c.args.line.now in
     let room = length c.args.buffer.now in
-    let u = c.unit-of-unit.result in
-    let is = unit_is h u c.unit-of-unit.ensures c.if-unit-gt24.false in
-    let o = c.in-ok-open.ensures in
+    let u = c.unit_of-unit.result in
+    let is = unit_is h u c.unit_of-unit.ensures c.if-unit-gt24.false in
+    let o = c.in_ok-open.ensures in
     let left = c.receive.ensures.left ∙ ap (past 97) o.left ∙ sym (line_is s.own s.filters c.args.strength room h c.if-buffer-lt66.false u is c.if-unit-gt24.false o.answers) in
-    let facts = c.in-ok-facts.facts in
+    let facts = c.in_ok-facts.facts in
     let octets = c.receive.new.octets in
-    let stands = subst (λ (z : Heard). Stands u c.args.strength z.present facts octets) o.left c.in-ok-facts.ensures.answers in
-    let answer = read_accepted s.own s.filters c.args.strength room h c.if-buffer-lt66.false u is c.if-unit-gt24.false o.answers facts octets stands c.in-ok-pass.ensures in
+    let stands = subst (λ (z : Heard). Stands u c.args.strength z.present facts octets) o.left c.in_ok-facts.ensures.answers in
+    let answer = read_accepted s.own s.filters c.args.strength room h c.if-buffer-lt66.false u is c.if-unit-gt24.false o.answers facts octets stands c.in_ok-pass.ensures in
     record {
       answers = ap Ok stands.facts ∙ sym (ap (told c.args.strength) answer);
-      buffer = buffer_is s.own s.filters c.args.strength room h c.if-buffer-lt66.false u is c.if-unit-gt24.false o.answers facts octets stands c.args.buffer.now c.hand-up.new.buffer c.hand-up.ensures
+      buffer = buffer_is s.own s.filters c.args.strength room h c.if-buffer-lt66.false u is c.if-unit-gt24.false o.answers facts octets stands c.args.buffer.now c.hand_up.new.buffer c.hand_up.ensures
           ∙ sym (ap (λ z. buffer_left z c.args.buffer.now) answer);
       left = left;
     }
