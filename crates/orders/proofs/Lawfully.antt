@@ -51,14 +51,14 @@ module _ {A : Type 0} (state : A → State) (own : ℕ) where
   run_reads : (os : List Order) (xs : List Outcome) (a b : Stand A) → 1 ≤ unit a.heard → Plays state own os xs a b → (i strength room : ℕ) (x : Outcome)
       → nth os i ≡ Some (Read strength room) → nth xs i ≡ Some x → opens (Read strength room) x ≡ true
       → Reads (unit a.heard) (settings a.filters (take i os) (take i xs)) (nth a.heard.coming (opened (take i os) (take i xs))) strength x
-  run_reads [] xs a b some p i strength room x e q Opened-one = absurd (no_order (Read strength room) e)
-  run_reads (o ∷ os) [] a b some p i strength room x e q Opened-one = absurd (no_order x q)
-  run_reads (o ∷ os) (y ∷ ys) a b some p zero strength room x e q Opened-one =
+  run_reads [] xs a b some p i strength room x e q opened_one = absurd (no_order (Read strength room) e)
+  run_reads (o ∷ os) [] a b some p i strength room x e q opened_one = absurd (no_order x q)
+  run_reads (o ∷ os) (y ∷ ys) a b some p zero strength room x e q opened_one =
       let s = subst (λ (z : Order). Step state own z y a p.0) (same_some o (Read strength room) e) p.1 in
       let same = sym s.0 ∙ same_some y x q in
       subst (λ (z : Outcome). Reads (unit a.heard) a.filters (nth a.heard.coming 0) strength z) same
-      (read_hands own a.filters strength room a.heard some (ap (opens (Read strength room)) same ∙ Opened-one))
-  run_reads (o ∷ os) (y ∷ ys) a b some p (suc i) strength room x e q Opened-one =
+      (read_hands own a.filters strength room a.heard some (ap (opens (Read strength room)) same ∙ opened_one))
+  run_reads (o ∷ os) (y ∷ ys) a b some p (suc i) strength room x e q opened_one =
       let c = p.0 in
       let m = step_moves state own o y a c p.1 in
       let n = opened (take i os) (take i ys) in
@@ -66,7 +66,12 @@ module _ {A : Type 0} (state : A → State) (own : ℕ) where
       subst (λ (z : Option Reception). Reads (unit a.heard) (settings (setting a.filters o y) (take i os) (take i ys)) z strength x) (m.moved n)
       (subst (λ (z : ℕ). Reads z (settings (setting a.filters o y) (take i os) (take i ys)) (nth c.heard.coming n) strength x) m.same_unit
       (subst (λ (z : Filters). Reads (unit c.heard) (settings z (take i os) (take i ys)) (nth c.heard.coming n) strength x) m.set
-      (run_reads os ys c b more p.2 i strength room x e q Opened-one)))
+      (run_reads os ys c b more p.2 i strength room x e q opened_one)))
+
+-- octets, by either name
+layer_octets : (xs : List ℕ) → Octets xs → LayerOctets xs
+layer_octets [] o = tt
+layer_octets (x ∷ xs) o = (o.0, layer_octets xs o.1)
 
 zeros : (k : ℕ) → Octets (replicate k 0)
 zeros zero = tt
@@ -83,7 +88,7 @@ through pile under ground m r some l h =
     let pu = (every_pile pile).positive v pv in
     let xs = padded u m in
     let fit : Fit (unit_of pile) v xs = record {
-      octets = layer-octets xs (All-append (λ x. x < 256) m (replicate (rounded u (length m) - length m) 0) l.octets (zeros (rounded u (length m) - length m)));
+      octets = layer_octets xs (All-append (λ x. x < 256) m (replicate (rounded u (length m) - length m) 0) l.octets (zeros (rounded u (length m) - length m)));
       even = ((length m + u - 1) / u, padded_count u pu m);
     } in
     let honest = (every_pile pile).honest v xs r pv fit h in
@@ -95,9 +100,9 @@ pub law : {A : Type 0} (state : A → State) (own : ℕ) (os : List Order) (xs :
 law state own os xs a b e s p = record {
   layered = s.layered;
   stops = run_stops state own os xs a b p;
-  reads = λ i strength room x oe xe Opened-one.
+  reads = λ i strength room x oe xe opened_one.
       subst (λ (z : Filters). Reads state own (unit a.heard) (settings z (take i os) (take i xs)) (nth a.heard.coming (opened (take i os) (take i xs))) strength x) e
-      (run_reads state own os xs a b (unit_some a.heard s) p i strength room x oe xe Opened-one);
+      (run_reads state own os xs a b (unit_some a.heard s) p i strength room x oe xe opened_one);
   unique = unique;
   near = λ pile under ground preamble m s t r some l pe ge sent h. through pile under ground m r some l h;
 }

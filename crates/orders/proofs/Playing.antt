@@ -10,7 +10,7 @@ use Rattle.station.specs.declared.filters.Filters.{Filters}
 use Rattle.station.specs.declared.filters.Facts.{Facts}
 use Rattle.orders.specs.declared.order.Order.{Order}
 use Rattle.orders.specs.declared.order.Outcome.{Outcome}
-use Rattle.orders.specs.declared.order.Outcome.TheVariants.{Message, Refused}
+use Rattle.orders.specs.declared.order.Outcome.TheVariants.{Sent as WasSent, Message, Refused}
 use Rattle.station.specs.Nearness.{padded}
 use Rattle.station.specs.Judging.{require, of_coming, reading, facts_of, told, buffer_left, listened, line_left}
 use Rattle.orders.specs.Sending.{Sent}
@@ -22,6 +22,11 @@ pub sent_by : {A : Type 0} (state : A → State) (p : ℕ) (m xs : List ℕ) (a 
     → Leaves (Written p xs) state r a b → Leaves (Sent p m) state r a b
 sent_by state p m xs a b (Ok x) e h = subst (λ (ys : List ℕ). Written p ys (state a) (state b)) e h
 sent_by state p m xs a b (Err x) e h = h
+
+-- an accepted sending
+pub send_accepted : (o : Option Refusal) → Ok tt ≡ answer o → WasSent ≡ send_outcome o
+send_accepted None e = refl
+send_accepted (Some x) e = let z : ◌≡◌ {A = ℕ} 0 1 = cc in absurd (omega arith)
 
 -- a refused sending
 pub send_refused : (o : Option Refusal) (e : Refusal) → Err e ≡ answer o → Refused e ≡ send_outcome o

@@ -11,6 +11,8 @@ use Rattle.coding.specs.Grouping.{Grouping, ending_above, resumed}
 use Rattle.reading.specs.Half.{held, half, over, waiting}
 use Rattle.radio.specs.Lines.{beyond, past}
 use Rattle.reading.specs.Meaning.{meaning}
+use Rattle.coding.specs.declared.Coding.{Ghosts as CodingOf}
+use Rattle.radio.specs.declared.line.Line.{Ghosts as LineOf}
 use Rattle.reading.specs.declared.Reading.{Reading}
 
 -- a take gives r, and turns p into q
@@ -167,7 +169,7 @@ module _ (c : Grouping) (t : Bool) (n : ℕ) (h : Heard) where
       (let a = takes_torn c n h.present l in record { answers = a.0; left = ap (λ z. over c z h) a.1 }))
 
 -- a half means the same where its fields are the same
-pub same_meaning : {C L : Type 0} (c : Grouping) (under : L → Heard) (b : Reading C L) (at end : ℕ) (ready : List Symbol) (torn : Bool) (given : ℕ) (below : L) →
+pub same_meaning : {C L : Type 0} {k : CodingOf C} {l : LineOf L} (c : Grouping) (under : L → Heard) (b : Reading C L k l) (at end : ℕ) (ready : List Symbol) (torn : Bool) (given : ℕ) (below : L) →
     b.at ≡ at → b.end ≡ end → b.ready ≡ ready → b.torn ≡ torn → b.given ≡ given → b.below ≡ below →
     meaning c under b ≡ half c (waiting at end ready) torn given (under below)
 same_meaning c under b at end ready torn given below e₁ e₂ e₃ e₄ e₅ e₆ =

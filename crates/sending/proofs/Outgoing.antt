@@ -11,6 +11,8 @@ use Rattle.radio.specs.Layer.{Pile, cost_of}
 use Rattle.radio.specs.Lines.{tail}
 use Rattle.radio.specs.Outlets.{State, Sound, Goes_on, Begun, Put, Ended, unit, answer, unless, idle, a_preamble, even, out_of_form, begin_refusal, put_refusal, needed, less}
 use Rattle.radio.proofs.States.{form_ok, no_space, put_accepted, goes_nowhere}
+use Rattle.radio.specs.declared.outlet.Outlet.{Ghosts as OutletOf}
+use Rattle.coding.specs.declared.Coding.{Ghosts as CodingOf}
 use Rattle.sending.specs.declared.Sending.{Sending}
 use Rattle.coding.specs.Regroup.{regroup}
 use Rattle.coding.specs.Grouping.{Grouping, groups_in, counted}
@@ -242,10 +244,10 @@ pub held_none : (c : Grouping) (group : List ℕ) → held_back c 0 group ≡ []
 held_none c group = let z : min 0 (c.plain - 1) ≡ 0 = omega arith in ap (λ k. take k group) z
 
 -- a half over another outlet below that is the same
-pub same_but_below : {C O : Type 0} (y y' : O) (k : C) (group : List ℕ) (held : ℕ) (l l' : length group ≡ 8) → y ≡ y'
-    → ◌≡◌ {A = Sending C O} (record { below = y; coding = k; group = group; held = held; long = l }) (record { below = y'; coding = k; group = group; held = held; long = l' })
-same_but_below {C} {O} y y' k group held l l' e =
-    let F : O → length group ≡ 8 → Sending C O = λ z m. record { below = z; coding = k; group = group; held = held; long = m } in
+pub same_but_below : {C O : Type 0} {codes : CodingOf C} {writes : OutletOf O} (y y' : O) (k : C) (group : List ℕ) (held : ℕ) (l l' : length group ≡ 8) → y ≡ y'
+    → ◌≡◌ {A = Sending C O codes writes} (record { below = y; coding = k; group = group; held = held; long = l }) (record { below = y'; coding = k; group = group; held = held; long = l' })
+same_but_below {C} {O} {codes} {writes} y y' k group held l l' e =
+    let F : O → length group ≡ 8 → Sending C O codes writes = λ z m. record { below = z; coding = k; group = group; held = held; long = m } in
     ap (λ z. F z l) e ∙ ap (F y') (ℕ_set (length group) 8 l l')
 
 -- a message through a half is its coding below

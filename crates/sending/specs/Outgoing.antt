@@ -4,6 +4,8 @@ use Rattle.radio.specs.declared.turn.Turn.{Turn}
 use Rattle.radio.specs.declared.turn.Turn.TheVariants.{Idle, Owing, Stuck}
 use Rattle.radio.specs.Layer.{Fit}
 use Rattle.radio.specs.Outlets.{State, Sound, Written, unit}
+use Rattle.radio.specs.declared.outlet.Outlet.{Ghosts as OutletOf}
+use Rattle.coding.specs.declared.Coding.{Ghosts as CodingOf}
 use Rattle.sending.specs.declared.Sending.{Sending}
 use Rattle.coding.specs.Regroup.{regroup}
 use Rattle.coding.specs.Grouping.{Grouping}
@@ -34,13 +36,13 @@ abbrev pub held_back : Grouping → ℕ → List ℕ → List ℕ
 held_back c held group = take (min held (c.plain - 1)) group
 
 -- what a sending half means by its fields; `under` is what the outlet below means
-abbrev pub outgoing : {C O : Type 0} → Grouping → (O → State) → Sending C O → State
+abbrev pub outgoing : {C O : Type 0} {k : CodingOf C} {l : OutletOf O} → Grouping → (O → State) → Sending C O k l → State
 outgoing c under s = over_outlet c (held_back c s.held s.group) (under s.below)
 
 pub over_outlet_sound : (c : Grouping) (held : List ℕ) (b : State) → Sound b → Sound (over_outlet c held b)
 over_outlet_sound c held b s = record { none_put = s.none_put; spaced = s.spaced; grounded = s.grounded; laid = s.laid }
 
-pub outgoing_sound : {C O : Type 0} (c : Grouping) (under : O → State) → ((o : O) → Sound (under o)) → (s : Sending C O) → Sound (outgoing c under s)
+pub outgoing_sound : {C O : Type 0} {k : CodingOf C} {l : OutletOf O} (c : Grouping) (under : O → State) → ((o : O) → Sound (under o)) → (s : Sending C O k l) → Sound (outgoing c under s)
 outgoing_sound c under sound s = over_outlet_sound c (held_back c s.held s.group) (under s.below) (sound s.below)
 
 -- the sending side of a layer: whenever a whole message has gone through a half, the outlet below is as if the layer's coding of it had been written there

@@ -14,21 +14,21 @@ returns g c =
     let b = c.args.message.now.octets in
     let m = items b in
     let p = c.args.preamble in
-    let u = c.unit-of-unit.result in
+    let u = c.unit_of-unit.result in
     let some = outlet_unit s (g.O.Outlet.sound o) in
-    let is : u ≡ unit s = omega (arith, c.unit-of-unit.ensures, c.if-unit-gt24.false) in
+    let is : u ≡ unit s = omega (arith, c.unit_of-unit.ensures, c.if-unit-gt24.false) in
     let small : unit s ≤ 24 = omega (arith, c.if-unit-gt24.false) in
     let l = items_length b in
     let short : length m ≤ 74 = omega (arith, b.within) in
-    let count : c.padded-length-count.result - 0 ≡ rounded (unit s) (length m) =
-    ap (λ k. k - 0) (c.padded-length-count.ensures.value ∙ ap (λ k. rounded k c.length.result) is ∙ ap (rounded (unit s)) c.length.ensures) ∙ less (rounded (unit s) (length m)) in
-    let front : c.zeros-behind-octets.result ≡ m ++ replicate (96 - length m) 0 =
-    c.zeros-behind-octets.ensures ∙ ap (λ xs. xs ++ replicate (96 - length xs) 0) c.octets.ensures.held in
-    let xs : take (c.padded-length-count.result - 0) c.zeros-behind-octets.result ≡ padded (unit s) m =
-    ap (λ k. take k c.zeros-behind-octets.result) count ∙ ap (take (rounded (unit s) (length m))) front ∙ padded_cut (unit s) some small m short in
+    let count : c.padded_length-count.result - 0 ≡ rounded (unit s) (length m) =
+    ap (λ k. k - 0) (c.padded_length-count.ensures.value ∙ ap (λ k. rounded k c.length.result) is ∙ ap (rounded (unit s)) c.length.ensures) ∙ less (rounded (unit s) (length m)) in
+    let front : c.zeros_behind-octets.result ≡ m ++ replicate (96 - length m) 0 =
+    c.zeros_behind-octets.ensures ∙ ap (λ xs. xs ++ replicate (96 - length xs) 0) c.octets.ensures.held in
+    let xs : take (c.padded_length-count.result - 0) c.zeros_behind-octets.result ≡ padded (unit s) m =
+    ap (λ k. take k c.zeros_behind-octets.result) count ∙ ap (take (rounded (unit s) (length m))) front ∙ padded_cut (unit s) some small m short in
     record {
-      answers = c.write-message.ensures.answers ∙ ap (λ ys. answer (begin_refusal p (length ys) s)) xs ∙ ap answer (refusal_is s p m some small short);
-      leaves = sent_by g.O.Outlet.state p m _ o c.write-message.new.outlet c.write-message.result xs c.write-message.ensures.leaves;
+      answers = c.write_message.ensures.answers ∙ ap (λ ys. answer (begin_refusal p (length ys) s)) xs ∙ ap answer (refusal_is s p m some small short);
+      leaves = sent_by g.O.Outlet.state p m _ o c.write_message.new.outlet c.write_message.result xs c.write_message.ensures.leaves;
     }
   where
     less : (k : ℕ) → k - 0 ≡ k

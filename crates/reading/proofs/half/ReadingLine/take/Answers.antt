@@ -26,16 +26,16 @@ returns-then-self-2 g c =
       left = same_meaning k g.L.Line.heard c.tear.new.self s.at s.end s.ready true s.given s.below m.at m.end m.ready m.torn m.given m.below ∙ t.left;
     }
 
-pub returns-in-err-n : goal.returns-in-err-n
-returns-in-err-n g c =
+pub returns-in_err-n : goal.returns-in_err-n
+returns-in_err-n g c =
     let s = c.args.self.now in
     let k = g.C.Coding.grouping in
     let h = g.L.Line.heard s.below in
     let w : s.end ≤ length s.ready = search rules in
-    let o = c.in-err-n.ensures in
+    let o = c.in_err-n.ensures in
     let e = c.coded-want.ensures in
     let l : length h.present.symbols < k.coded = omega (arith, o.gives.0, e) in
-    let x = err_from_is_err_and c.from-residual.result c.from-residual.ensures.1 in
+    let x = err_from_is_err_and c.from_residual.result c.from_residual.ensures.1 in
     let t = fault_below k _ s.torn s.given h (g.L.Line.heard c.gather.new.below) (none_waiting s.at s.end s.ready c.if-self.false w) c.if-self-2.false
     (o.left ∙ ap (λ n. past n h) e) x.0 o.gives.1.0 l o.gives.1.1 (x.2 ∙ o.gives.1.2) in
     record { answers = x.1 ∙ t.answers; left = t.left }
@@ -46,9 +46,9 @@ returns-then-n-eq0 g c =
     let k = g.C.Coding.grouping in
     let h = g.L.Line.heard s.below in
     let w : s.end ≤ length s.ready = search rules in
-    let o = c.in-ok-n.ensures in
+    let o = c.in_ok-n.ensures in
     let e = c.coded-want.ensures in
-    let less : c.in-ok-n.n < c.coded-want.result = omega (arith, c.if-n-eq0.true, e, k.some, k.no_less) in
+    let less : c.in_ok-n.n < c.coded-want.result = omega (arith, c.if-n-eq0.true, e, k.some, k.no_less) in
     let none : length h.present.symbols ≡ 0 = omega (arith, o.gives.0, c.if-n-eq0.true, e, k.some, k.no_less) in
     let t = end_below k _ s.torn s.given h (g.L.Line.heard c.gather.new.below) (none_waiting s.at s.end s.ready c.if-self.false w) c.if-self-2.false
     (o.left ∙ ap (λ n. past n h) e) (nil_from_length h.present.symbols none) (o.gives.2 less) in
@@ -61,7 +61,7 @@ returns-then-n-want g c =
     let h = g.L.Line.heard s.below in
     let w : s.end ≤ length s.ready = search rules in
     let given : s.given < 65536 = search rules in
-    let o = c.in-ok-n.ensures in
+    let o = c.in_ok-n.ensures in
     let e = c.coded-want.ensures in
     let some : 1 ≤ length h.present.symbols = omega (arith, o.gives.0, c.if-n-eq0.false) in
     let l : length h.present.symbols < k.coded = omega (arith, o.gives.0, c.if-n-want.true, e) in
@@ -80,9 +80,9 @@ returns g c =
     let k = g.C.Coding.grouping in
     let h = g.L.Line.heard s.below in
     let w : s.end ≤ length s.ready = search rules in
-    let o = c.in-ok-n.ensures in
+    let o = c.in_ok-n.ensures in
     let e = c.coded-want.ensures in
-    let n : c.in-ok-n.n ≡ c.coded-want.result = omega (arith, o.gives.0, c.if-n-want.false) in
+    let n : c.in_ok-n.n ≡ c.coded-want.result = omega (arith, o.gives.0, c.if-n-want.false) in
     let l : k.coded ≤ length h.present.symbols = omega (arith, o.gives.0, e, n) in
     let group = c.gather.new.group in
     let same : take k.coded group ≡ take k.coded h.present.symbols =

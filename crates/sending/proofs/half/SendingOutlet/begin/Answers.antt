@@ -6,13 +6,13 @@ use Rattle.sending.specs.Outgoing.{outgoing, held_back}
 use Rattle.sending.proofs.Outgoing.{too_many, same_answer, begun_half, held_none, same_but_below}
 use Rattle.sending.proofs.half.SendingOutlet.begin.Goals as goal
 
-pub returns-in-err-check-form : goal.returns-in-err-check-form
-returns-in-err-check-form g c =
+pub returns-in_err-check_form : goal.returns-in_err-check_form
+returns-in_err-check_form g c =
     let s = c.args.self.now in
     let meant = outgoing g.C.Coding.grouping g.O.Outlet.state s in
-    let h = c.in-err-check-form.ensures.answers in
-    let p = err_from_is_err_and c.from-residual.result c.from-residual.ensures.1 in
-    rw (p.1, p.2) (record { answers = no_form c.args.preamble c.args.count meant c.in-err-check-form.field-0.0 h; leaves = refl })
+    let h = c.in_err-check_form.ensures.answers in
+    let p = err_from_is_err_and c.from_residual.result c.from_residual.ensures.1 in
+    rw (p.1, p.2) (record { answers = no_form c.args.preamble c.args.count meant c.in_err-check_form.field-0.0 h; leaves = refl })
 
 pub returns-then-below-gt65534 : goal.returns-then-below-gt65534
 returns-then-below-gt65534 g c =
@@ -21,22 +21,22 @@ returns-then-below-gt65534 g c =
     let n : c.args.count / c.plain.result * c.coded.result ≡ c.args.count / k.plain * k.coded = ap (λ p. c.args.count / p * c.coded.result) c.plain.ensures ∙ ap (λ q. c.args.count / k.plain * q) c.coded.ensures in
     let over : 65534 < c.args.count / k.plain * k.coded = subst (λ (m : ℕ). 65534 < m) n c.if-below-gt65534.true in
     record {
-      answers = too_many k (held_back k s.held s.group) (g.O.Outlet.state s.below) c.args.preamble c.args.count c.in-ok-check-form.ensures.answers (g.O.Outlet.sound s.below) over;
+      answers = too_many k (held_back k s.held s.group) (g.O.Outlet.state s.below) c.args.preamble c.args.count c.in_ok-check_form.ensures.answers (g.O.Outlet.sound s.below) over;
       leaves = refl;
     }
 
-pub returns-in-err-begin : goal.returns-in-err-begin
-returns-in-err-begin g c =
+pub returns-in_err-begin : goal.returns-in_err-begin
+returns-in_err-begin g c =
     let s = c.args.self.now in
     let k = g.C.Coding.grouping in
-    let h = c.in-err-begin.ensures in
-    let p = err_from_is_err_and c.from-residual-in-err-begin.result c.from-residual-in-err-begin.ensures.1 in
+    let h = c.in_err-begin.ensures in
+    let p = err_from_is_err_and c.from_residual-in_err-begin.result c.from_residual-in_err-begin.ensures.1 in
     let n : c.args.count / c.plain.result * c.coded.result ≡ c.args.count / k.plain * k.coded = ap (λ p. c.args.count / p * c.coded.result) c.plain.ensures ∙ ap (λ q. c.args.count / k.plain * q) c.coded.ensures in
     let few : c.args.count / k.plain * k.coded ≤ 65534 = subst (λ (m : ℕ). m ≤ 65534) n c.if-below-gt65534.false in
     rw (p.1, p.2) (record {
       answers = h.answers
           ∙ ap (λ m. answer (begin_refusal c.args.preamble m (g.O.Outlet.state s.below))) n
-          ∙ same_answer k (held_back k s.held s.group) (g.O.Outlet.state s.below) c.args.preamble c.args.count c.in-ok-check-form.ensures.answers few;
+          ∙ same_answer k (held_back k s.held s.group) (g.O.Outlet.state s.below) c.args.preamble c.args.count c.in_ok-check_form.ensures.answers few;
       leaves = same_but_below _ _ _ _ _ _ _ h.leaves;
     })
 
@@ -47,8 +47,8 @@ returns g c =
     let b = g.O.Outlet.state s.below in
     let b' = g.O.Outlet.state c.begin.new.self in
     let held = held_back k s.held s.group in
-    let form = c.in-ok-check-form.ensures.answers in
-    let h = c.in-ok-begin.ensures in
+    let form = c.in_ok-check_form.ensures.answers in
+    let h = c.in_ok-begin.ensures in
     let n : c.args.count / c.plain.result * c.coded.result ≡ c.args.count / k.plain * k.coded = ap (λ p. c.args.count / p * c.coded.result) c.plain.ensures ∙ ap (λ q. c.args.count / k.plain * q) c.coded.ensures in
     let few : c.args.count / k.plain * k.coded ≤ 65534 = subst (λ (m : ℕ). m ≤ 65534) n c.if-below-gt65534.false in
     record {
