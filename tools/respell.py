@@ -15,6 +15,8 @@ DECLARED = re.compile(r"^\s*(?:(?:pub|abbrev|unfoldable|data|record|module)\s+)*
 ALIAS = re.compile(r"\bas (" + WORD + r")")
 LOCAL = [re.compile(r"let (" + WORD + r") [:=]"), re.compile(r"\(([^:(){}]+) : ")]
 HAND = {"getD-low": "get_or_low"}
+# Words that clauses and specs may not use, since they are tactics.
+RESERVED = {"ground": "ground_unit"}
 
 
 def sources():
@@ -79,7 +81,7 @@ def main():
         names |= names_in(p, t)
     both = names & library_names(texts)
     names -= both
-    table = {n: spelled(n) for n in names}
+    table = {n: spelled(n) for n in names} | RESERVED
     token = re.compile(WORD)
     if "--list" in sys.argv[1:]:
         used = set()

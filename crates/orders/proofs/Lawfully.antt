@@ -78,12 +78,12 @@ zeros zero = tt
 zeros (suc k) = (lit< tt, zeros k)
 
 -- through a pile
-through : (pile under : Pile) (ground : ℕ) (m : List ℕ) (r : Reception) → 1 ≤ ground → Lawful m
-    → Honest (may_of pile) (sent_through pile (padded (unit_of pile (unit_of under ground)) m)) r
-    → Iff (Near (unit_of pile (unit_of under ground)) m (read_through pile r)) (Few (rule_of pile (marks (may_of pile) r)))
-through pile under ground m r some l h =
-    let v = unit_of under ground in
-    let pv = (every_pile under).positive ground some in
+through : (pile under : Pile) (ground_unit : ℕ) (m : List ℕ) (r : Reception) → 1 ≤ ground_unit → Lawful m
+    → Honest (may_of pile) (sent_through pile (padded (unit_of pile (unit_of under ground_unit)) m)) r
+    → Iff (Near (unit_of pile (unit_of under ground_unit)) m (read_through pile r)) (Few (rule_of pile (marks (may_of pile) r)))
+through pile under ground_unit m r some l h =
+    let v = unit_of under ground_unit in
+    let pv = (every_pile under).positive ground_unit some in
     let u = unit_of pile v in
     let pu = (every_pile pile).positive v pv in
     let xs = padded u m in
@@ -104,5 +104,5 @@ law state own os xs a b e s p = record {
       subst (λ (z : Filters). Reads state own (unit a.heard) (settings z (take i os) (take i xs)) (nth a.heard.coming (opened (take i os) (take i xs))) strength x) e
       (run_reads state own os xs a b (unit_some a.heard s) p i strength room x oe xe opened_one);
   unique = unique;
-  near = λ pile under ground preamble m s t r some l pe ge sent h. through pile under ground m r some l h;
+  near = λ pile under ground_unit preamble m s t r some l pe ge sent h. through pile under ground_unit m r some l h;
 }

@@ -17,7 +17,7 @@ take_past (x ∷ xs) ys k = ap (λ n. take n (x ∷ (xs ++ ys))) (suc-add (lengt
 
 -- the unit of an outlet is at least 1
 pub outlet_unit : (s : State) → Sound s → 1 ≤ unit s
-outlet_unit s h = (every_pile s.pile).positive s.ground h.grounded
+outlet_unit s h = (every_pile s.pile).positive s.ground_unit h.grounded
 
 -- a padded message has a multiple of the unit
 pub padded_count : (u : ℕ) → 1 ≤ u → (m : List ℕ) → length (padded u m) ≡ rounded u (length m)

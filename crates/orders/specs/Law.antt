@@ -92,7 +92,7 @@ pub record Radio (own : ℕ) (h : Heard) (orders : List Order) (outcomes : List 
   -- a lawful message whose sending was accepted, honestly received at the bottom of the reading pile, is near what the
   -- top of that pile shows exactly when the pile's rules leave at most one octet spoiled, and not the first; the
   -- sender's lowest layers may count as a part of its outlet
-  pub near : (pile under : Pile) (ground preamble : ℕ) (m : List ℕ) (s t : State) (r : Reception) → 1 ≤ ground → Lawful m
-      → s.pile ≡ pile ++ under → s.ground ≡ ground → Sent preamble m s t
-      → Honest (may_of pile) (sent_through pile (padded (unit_of pile (unit_of under ground)) m)) r
-      → Iff (Near (unit_of pile (unit_of under ground)) m (read_through pile r)) (Few (rule_of pile (marks (may_of pile) r)))
+  pub near : (pile under : Pile) (ground_unit preamble : ℕ) (m : List ℕ) (s t : State) (r : Reception) → 1 ≤ ground_unit → Lawful m
+      → s.pile ≡ pile ++ under → s.ground_unit ≡ ground_unit → Sent preamble m s t
+      → Honest (may_of pile) (sent_through pile (padded (unit_of pile (unit_of under ground_unit)) m)) r
+      → Iff (Near (unit_of pile (unit_of under ground_unit)) m (read_through pile r)) (Few (rule_of pile (marks (may_of pile) r)))

@@ -70,7 +70,7 @@ module _ (cells : ℕ → List ℕ) (ch m xs ch' m' : List ℕ) (l : Lays cells 
   bottom_goes : (t' : Turn) (r' : ℕ) → Goes_on (bottom cells ch m t r) (bottom cells ch' m' t' r')
   bottom_goes t' r' = record {
     pile = refl;
-    ground = refl;
+    ground_unit = refl;
     cells = refl;
     grows = (xs, l.channel_is);
     memory = l.memory_is ∙ ap (λ c. laid_over cells c m) (sym l.channel_is);

@@ -15,7 +15,7 @@ bottom cells channel memory turn space = record {
   turn = turn;
   space = space;
   pile = [];
-  ground = 1;
+  ground_unit = 1;
   memory = memory;
   cells = cells;
 }

@@ -16,7 +16,7 @@ unit_positive [] u h = h
 unit_positive (l ∷ ls) u h = l.laws.positive (unit_of ls u) (unit_positive ls u h)
 
 pub sound_unit : (s : State) → Sound s → 1 ≤ unit s
-sound_unit s h = unit_positive s.pile s.ground h.grounded
+sound_unit s h = unit_positive s.pile s.ground_unit h.grounded
 
 -- a count of at most 65,534 against a unit that may be larger
 pub min_same : (k u : ℕ) → k ≤ 65534 → k % min u 65535 ≡ k % u
@@ -73,12 +73,12 @@ laid_further cells channel more memory =
     )
 
 pub goes_nowhere : (s : State) → Sound s → Goes_on s s
-goes_nowhere s h = record { pile = refl; ground = refl; cells = refl; grows = ([], sym (append-nil s.channel)); memory = h.laid }
+goes_nowhere s h = record { pile = refl; ground_unit = refl; cells = refl; grows = ([], sym (append-nil s.channel)); memory = h.laid }
 
 pub goes_further : (s t u : State) → Goes_on s t → Goes_on t u → Goes_on s u
 goes_further s t u g h = record {
   pile = h.pile ∙ g.pile;
-  ground = h.ground ∙ g.ground;
+  ground_unit = h.ground_unit ∙ g.ground_unit;
   cells = h.cells ∙ g.cells;
   grows = (g.grows.0 ++ h.grows.0, h.grows.1 ∙ ap (λ c. c ++ h.grows.0) g.grows.1 ∙ append_assoc s.channel g.grows.0 h.grows.0);
   memory =

@@ -25,7 +25,7 @@ first_fault [] (fault f₀) f q = let k : f₀ ≡ f = cc in (refl, ap fault k)
 first_fault (x ∷ ss) e f q = let z : ◌≡◌ {A = ℕ} 0 1 = cc in absurd (omega arith)
 
 with_symbols : Heard → List Symbol → Heard
-with_symbols h ss = record { present = record { symbols = ss; ending = h.present.ending }; coming = h.coming; pile = h.pile; air = h.air; ground = h.ground }
+with_symbols h ss = record { present = record { symbols = ss; ending = h.present.ending }; coming = h.coming; pile = h.pile; air = h.air; ground_unit = h.ground_unit }
 
 -- the line q is h with i symbols taken, and another is taken from it
 module _ (i : ℕ) (h q : Heard) (e : q ≡ past i h) where

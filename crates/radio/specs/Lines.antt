@@ -17,19 +17,19 @@ pub record Heard : Type 0 where
   pub pile : Pile
   -- the receptions to come at the bottom, and the bottom's unit
   pub air : List Reception
-  pub ground : ℕ
+  pub ground_unit : ℕ
 
 abbrev pub unit : Heard → ℕ
-unit h = unit_of h.pile h.ground
+unit h = unit_of h.pile h.ground_unit
 
 -- what holds of every line: what is to come is what is to come at the bottom, read through the pile
 pub record Sound (h : Heard) : Type 0 where
-  pub grounded : 1 ≤ h.ground
+  pub grounded : 1 ≤ h.ground_unit
   pub layered : h.coming ≡ map (read_through h.pile) h.air
 
 -- what a bottom of unit 1 means
 abbrev pub at_bottom : Reception → List Reception → Heard
-at_bottom p cs = record { present = p; coming = cs; pile = []; air = cs; ground = 1 }
+at_bottom p cs = record { present = p; coming = cs; pile = []; air = cs; ground_unit = 1 }
 
 -- nothing is present at a bottom before the first opening
 abbrev pub present_of : Bool → Reception → Reception
@@ -61,7 +61,7 @@ found (c ∷ cs) = Ok tt
 -- the line once it has been opened: the first to come is present; with none to come all is as it was
 abbrev pub opening : Heard → List Reception → Heard
 opening h [] = h
-opening h (c ∷ cs) = record { present = c; coming = cs; pile = h.pile; air = tail h.air; ground = h.ground }
+opening h (c ∷ cs) = record { present = c; coming = cs; pile = h.pile; air = tail h.air; ground_unit = h.ground_unit }
 
 abbrev pub opened : Heard → Heard
 opened h = opening h h.coming
@@ -80,7 +80,7 @@ next p = first p.symbols p.ending
 
 -- the line once a symbol has been taken: the present reception without its first symbol
 abbrev pub taken : Heard → Heard
-taken h = record { present = record { symbols = tail h.present.symbols; ending = h.present.ending }; coming = h.coming; pile = h.pile; air = h.air; ground = h.ground }
+taken h = record { present = record { symbols = tail h.present.symbols; ending = h.present.ending }; coming = h.coming; pile = h.pile; air = h.air; ground_unit = h.ground_unit }
 
 -- what a take answers, and what it leaves of what the line meant
 abbrev pub Takes : Heard → Result (Option Symbol) Fault → Heard → Type 0
@@ -91,4 +91,4 @@ abbrev pub beyond : ℕ → Reception → Reception
 beyond n p = record { symbols = drop n p.symbols; ending = p.ending }
 
 abbrev pub past : ℕ → Heard → Heard
-past n h = record { present = beyond n h.present; coming = h.coming; pile = h.pile; air = h.air; ground = h.ground }
+past n h = record { present = beyond n h.present; coming = h.coming; pile = h.pile; air = h.air; ground_unit = h.ground_unit }

@@ -18,13 +18,13 @@ pub record State : Type 0 where
   pub space : ℕ
   -- the layers between this outlet and the bottom, the top one first, and the bottom's unit
   pub pile : Pile
-  pub ground : ℕ
+  pub ground_unit : ℕ
   -- the memory as cells, octets or bits, and the cells of one channel octet
   pub memory : List ℕ
   pub cells : ℕ → List ℕ
 
 abbrev pub unit : State → ℕ
-unit s = unit_of s.pile s.ground
+unit s = unit_of s.pile s.ground_unit
 
 -- the memory with the cells of these channel octets at its start; every later cell stays
 abbrev pub laid_over : (ℕ → List ℕ) → List ℕ → List ℕ → List ℕ
@@ -34,13 +34,13 @@ laid_over cells octets memory = flat_map cells octets ++ drop (length (flat_map 
 pub record Sound (s : State) : Type 0 where
   pub none_put : s.channel ≡ s.once_put []
   pub spaced : s.space ≤ 65536
-  pub grounded : 1 ≤ s.ground
+  pub grounded : 1 ≤ s.ground_unit
   pub laid : s.memory ≡ laid_over s.cells s.channel s.memory
 
 -- what every call keeps: the channel only grows, and the memory is the old one with the channel at its start
 pub record Goes_on (s t : State) : Type 0 where
   pub pile : t.pile ≡ s.pile
-  pub ground : t.ground ≡ s.ground
+  pub ground_unit : t.ground_unit ≡ s.ground_unit
   pub cells : t.cells ≡ s.cells
   pub grows : (more : List ℕ) × (t.channel ≡ s.channel ++ more)
   pub memory : t.memory ≡ laid_over s.cells t.channel s.memory

@@ -27,7 +27,7 @@ over c p h = record {
   coming = map (decoded c) h.coming;
   pile = layer_of c ∷ h.pile;
   air = h.air;
-  ground = h.ground;
+  ground_unit = h.ground_unit;
 }
 
 abbrev pub half : Grouping → List Symbol → Bool → ℕ → Heard → Heard

@@ -30,7 +30,7 @@ times_suc j q = ap (λ i. i * q) (sym (add-one j)) ∙ add-mul j 1 q ∙ ap (λ 
 
 -- what stays below stays above
 pub half_goes : (c : Grouping) (h h' : List ℕ) (b b' : State) → Goes_on b b' → Goes_on (over_outlet c h b) (over_outlet c h' b')
-half_goes c h h' b b' r = record { pile = ap (λ ls. layer_of c ∷ ls) r.pile; ground = r.ground; cells = r.cells; grows = r.grows; memory = r.memory }
+half_goes c h h' b b' r = record { pile = ap (λ ls. layer_of c ∷ ls) r.pile; ground_unit = r.ground_unit; cells = r.cells; grows = r.grows; memory = r.memory }
 
 module _ (c : Grouping) where
   coded_pos : 0 < c.coded
@@ -258,5 +258,5 @@ sends_coding c held held' b b' p xs one fit w =
       turn = idle_below c b'.turn (length held') (ap idle w.turn);
       space = w.space ∙ ap (λ m. b.space - (p + 2 + cost_of b.pile m)) (sym k);
       channel = w.channel;
-      goes_on = record { pile = ap tail w.goes_on.pile; ground = w.goes_on.ground; cells = w.goes_on.cells; grows = w.goes_on.grows; memory = w.goes_on.memory };
+      goes_on = record { pile = ap tail w.goes_on.pile; ground_unit = w.goes_on.ground_unit; cells = w.goes_on.cells; grows = w.goes_on.grows; memory = w.goes_on.memory };
     }

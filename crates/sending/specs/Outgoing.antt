@@ -26,7 +26,7 @@ over_outlet c held b = record {
   turn = turn_over c.plain c.coded b.turn (length held);
   space = b.space;
   pile = layer_of c ∷ b.pile;
-  ground = b.ground;
+  ground_unit = b.ground_unit;
   memory = b.memory;
   cells = b.cells;
 }

@@ -17,7 +17,7 @@ pub unit_is : (h : Heard) (u : ℕ) → u ≡ min (unit h) 65535 → u ≤ 24 �
 unit_is h u e l = omega arith
 
 pub unit_some : (h : Heard) → Sound h → 1 ≤ unit h
-unit_some h s = (every_pile h.pile).positive h.ground s.grounded
+unit_some h s = (every_pile h.pile).positive h.ground_unit s.grounded
 
 module _ (own : ℕ) (f : Filters) (strength room : ℕ) (h : Heard) (long : 66 ≤ room) (u : ℕ) (is : u ≡ unit h) (small : u ≤ 24) (some : Ok tt ≡ found h.coming) where
   first_of : (cs : List Reception) → Ok tt ≡ found cs → of_coming own f strength (unit h) cs ≡ received own f strength (unit h) (opening h cs).present
