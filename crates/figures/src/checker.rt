@@ -15,14 +15,14 @@ pub(crate) struct Checker {
 }
 
 impl Checker {
-    pub(crate) fn new(rt: &HostRuntime) -> Checker {
+    pub(crate) fn new(rt: &HostRuntime) -> io::Result<Checker> {
         let heap = rt.alloc();
-        Checker {
+        Ok(Checker {
             heap,
-            lines: BufReader::new(rt.stdin()).split(heap, b'\n'),
-            out: BufWriter::new(rt.stdout()),
+            lines: BufReader::new(heap, rt.stdin())?.split(heap, b'\n'),
+            out: BufWriter::new(heap, rt.stdout())?,
             tally: Tally::new(heap),
-        }
+        })
     }
 
     /// Prints how many answers there were of each kind, if none is missing.

@@ -20,7 +20,7 @@ fn main(rt: HostRuntime) -> io::Result<()> {
     let _ = table_holds();
     let _ = recorded_run(rt.alloc());
     let _ = sent_and_read(vec![in rt.alloc(); 0; 29]?);
-    let mut checker = Checker::new(&rt);
+    let mut checker = Checker::new(&rt)?;
     serve(&mut checker)?;
     checker.report()
 }

@@ -21,14 +21,14 @@ pub fn obey<L: Line>(
     if first[0] == b'#' {
         return Ok(None);
     }
-    if first == b"hear" {
+    if first == b"hear".as_slice() {
         return Ok(Some(hear(heap, &mut words)?));
     }
-    if first == b"seal" {
+    if first == b"seal".as_slice() {
         seal(heap, &mut words, out)?;
         return Ok(None);
     }
-    if first == b"bodies" {
+    if first == b"bodies".as_slice() {
         bodies(heap, &mut words, out)?;
         return Ok(None);
     }

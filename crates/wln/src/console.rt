@@ -11,13 +11,13 @@ pub struct Console {
 }
 
 impl Console {
-    pub fn new(rt: &HostRuntime) -> Console {
+    pub fn new(rt: &HostRuntime) -> io::Result<Console> {
         let heap = rt.alloc();
-        Console {
+        Ok(Console {
             heap,
-            lines: BufReader::new(rt.stdin()).split(heap, b'\n'),
-            out: BufWriter::new(rt.stdout()),
-        }
+            lines: BufReader::new(heap, rt.stdin())?.split(heap, b'\n'),
+            out: BufWriter::new(heap, rt.stdout())?,
+        })
     }
 
     pub fn heap(&self) -> Global {

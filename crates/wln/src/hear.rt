@@ -26,10 +26,10 @@ pub fn hear(heap: Global, words: &mut Words<'_>) -> Result<Recording, Stop> {
 fn bottom_of(word: &[u8]) -> Result<Bottom, Stop>
     ensures { MatchResult result (λ b. word.now ≡ bottom_name b) (λ stop. WhereUnread stop ((b : BottomKind) → word.now ≢ bottom_name b)) }
 {
-    if word == b"octets" {
+    if word == b"octets".as_slice() {
         return Ok(Bottom::Octets);
     }
-    if word == b"bits" {
+    if word == b"bits".as_slice() {
         return Ok(Bottom::Bits);
     }
     Err(Stop::Unread("LINE is octets or bits"))
@@ -38,10 +38,10 @@ fn bottom_of(word: &[u8]) -> Result<Bottom, Stop>
 fn pile_of(word: &[u8]) -> Result<Pile, Stop>
     ensures { MatchResult result (λ p. word.now ≡ pile_name p) (λ stop. WhereUnread stop ((p : PileKind) → word.now ≢ pile_name p)) }
 {
-    if word == b"plain" {
+    if word == b"plain".as_slice() {
         return Ok(Pile::Plain);
     }
-    if word == b"standard" {
+    if word == b"standard".as_slice() {
         return Ok(Pile::Standard);
     }
     Err(Stop::Unread("PILE is plain or standard"))

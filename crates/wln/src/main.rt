@@ -22,7 +22,7 @@ use std::io;
 
 /// Before the first recording the line is one on which nothing was heard.
 fn main(rt: HostRuntime) -> io::Result<()> {
-    let mut console = Console::new(&rt);
+    let mut console = Console::new(&rt)?;
     let mut next = commands(&mut console, OctetLine::new(b""))?;
     for _ in 0..u64::MAX {
         let Some(recording) = next else {

@@ -8,7 +8,7 @@ use commands::serve;
 use std::io;
 
 fn main(rt: HostRuntime) -> io::Result<()> {
-    let mut terminal = Terminal::new(&rt);
+    let mut terminal = Terminal::new(&rt)?;
     serve(&mut terminal)?;
     terminal.flush()
 }

@@ -12,13 +12,13 @@ pub(crate) struct Terminal {
 }
 
 impl Terminal {
-    pub(crate) fn new(rt: &HostRuntime) -> Terminal {
+    pub(crate) fn new(rt: &HostRuntime) -> io::Result<Terminal> {
         let heap = rt.alloc();
-        Terminal {
+        Ok(Terminal {
             heap,
-            lines: BufReader::new(rt.stdin()).split(heap, b'\n'),
-            out: BufWriter::new(rt.stdout()),
-        }
+            lines: BufReader::new(heap, rt.stdin())?.split(heap, b'\n'),
+            out: BufWriter::new(heap, rt.stdout())?,
+        })
     }
 
     pub(crate) fn flush(&mut self) -> io::Result<()> {
