@@ -8,6 +8,6 @@ pub loop-placed-preserved : goal.loop-placed-preserved
 loop-placed-preserved c =
     let was = string_bytes c.loop-placed.lines in
     let line = body_line (stands c.in-Some.placed) in
-    let pushed = c.in-ok-push-str.ensures.bytes ∙ ap (λ s. was ++ s) (c.as-str.ensures.value ∙ c.in-ok-line.ensures) in
-    piece_more was (string_bytes c.push-str.new.self) line (body_lines (to_come c.next.new.self)) (body_lines (to_come c.into-iter-placed-iterator.result)) pushed
+    let pushed = c.in_ok-push_str.ensures.bytes ∙ ap (λ s. was ++ s) (c.as_str.ensures.value ∙ c.in_ok-line.ensures) in
+    piece_more was (string_bytes c.push_str.new.self) line (body_lines (to_come c.next.new.self)) (body_lines (to_come c.into_iter-placed-iterator.result)) pushed
     (ap (λ ss. was ++ body_lines ss) (sym c.in-Some.ensures.steps) ∙ c.loop-placed.invariant)

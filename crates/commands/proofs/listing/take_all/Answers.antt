@@ -13,5 +13,5 @@ loop-symbol-preserved g c =
     let inv = c.loop-symbol.invariant in (
       ap (λ h. h.coming) left ∙ inv.0,
       ap (λ h. h.present.ending) left ∙ inv.1,
-      symbol_taken (vec_items c.loop-symbol.taken) (vec_items c.push.new.self) was after c.in-Ok-Some.symbol came left c.in-ok-push.ensures.items ∙ inv.2,
+      symbol_taken (vec_items c.loop-symbol.taken) (vec_items c.push.new.self) was after c.in-Ok-Some.symbol came left c.in_ok-push-in-Ok-Some.ensures.items ∙ inv.2,
     )

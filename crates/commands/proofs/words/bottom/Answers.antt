@@ -7,6 +7,6 @@ use Rattle.commands.proofs.words.bottom.Goals as goal
 
 pub returns : goal.returns
 returns c = record {
-  word = told_word (λ x. x) c.bottom-of.result (codes "LINE is missing") bottom_word (to_come c.args.words.now) c.in-ok-want.field-0.now c.in-ok-want.ensures.word c.bottom-of.ensures;
+  word = told_word (λ x. x) c.bottom_of.result (codes "LINE is missing") bottom_word (to_come c.args.words.now) c.in_ok-want.field-0.now c.in_ok-want.ensures.word c.bottom_of.ensures;
   left = c.want.ensures.left;
 }

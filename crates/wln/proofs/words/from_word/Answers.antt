@@ -5,9 +5,9 @@ use Rattle.wln.proofs.words.from_word.Goals as goal
 pub loop-rest-preserved : goal.loop-rest-preserved
 loop-rest-preserved c =
     let one : 1 ≤ length c.loop-rest.rest.now = omega (arith, ltb-false) in
-    from_step c.loop-rest.rest.now c.is-blank.result one c.is-blank.ensures c.if-not-is-blank.false ∙ c.loop-rest.invariant
+    from_step c.loop-rest.rest.now c.is_blank.result one c.is_blank.ensures c.if-not-is_blank.false ∙ c.loop-rest.invariant
 
-pub returns-in-default : goal.returns-in-default
-returns-in-default c =
+pub returns-in_default : goal.returns-in_default
+returns-in_default c =
     let none : length c.loop-rest.rest.now < 1 = omega (arith, ltb-true) in
     sym (from_end c.loop-rest.rest.now none) ∙ c.loop-rest.invariant

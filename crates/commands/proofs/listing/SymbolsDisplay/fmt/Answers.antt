@@ -10,10 +10,10 @@ loop-symbol-preserved g c plain =
     let ss = c.args.self.now.0.now in
     let i = c.loop-symbol.symbol-index in
     let so_far = c.loop-symbol.invariant plain in
-    has_written_of_eq g.W.Write.write_str_gives c.args.f.now _ _ c.write-symbol.new.f (symbols_more ss (Clean 0) i c.loop-symbol-test.true)
-    (has_written_append g.W.Write.write_str_gives c.args.f.now (all_symbols (take i ss)) c.loop-symbol.f (symbol_text (get_or ss i (Clean 0))) c.write-symbol.new.f so_far (c.in-ok-write-symbol.ensures so_far.plain (refl {a = true})))
+    has_written_of_eq g.W.Write.write_str_gives c.args.f.now _ _ c.write_symbol.new.f (symbols_more ss (Clean 0) i c.loop-symbol-test.true)
+    (has_written_append g.W.Write.write_str_gives c.args.f.now (all_symbols (take i ss)) c.loop-symbol.f (symbol_text (get_or ss i (Clean 0))) c.write_symbol.new.f so_far (c.in_ok-write_symbol.ensures so_far.plain (refl {a = true})))
 
 pub returns-clause-writes : goal.returns-clause-writes
 returns-clause-writes g c plain ok =
     let ss = c.args.self.now.0.now in
-    has_written_of_eq g.W.Write.write_str_gives c.args.f.now _ _ c.loop-symbol.f (symbols_all ss c.loop-symbol.symbol-index c.loop-symbol-test.false (sym c.is-empty.ensures ∙ c.if-is-empty.false)) (c.loop-symbol.invariant plain)
+    has_written_of_eq g.W.Write.write_str_gives c.args.f.now _ _ c.loop-symbol.f (symbols_all ss c.loop-symbol.symbol-index c.loop-symbol-test.false (sym c.is_empty.ensures ∙ c.if-is_empty.false)) (c.loop-symbol.invariant plain)
