@@ -27,9 +27,9 @@ pub returns : goal.returns
 returns c =
     let os = c.args.orders.now in
     let five : length os ≡ 5 = omega arith in
-    let ran = c.in-ok-run.ensures.ran in
-    let a : Stand OctetOutlet = record { filters = off; heard = meaning block (meaning manchester heard) c.standard-reading-line.result; outlet = c.new-outlet.result } in
+    let ran = c.in_ok-run.ensures.ran in
+    let a : Stand OctetOutlet = record { filters = off; heard = meaning block (meaning manchester heard) c.standard_reading-line.result; outlet = c.new-outlet.result } in
     let b : Stand OctetOutlet = record { filters = ran.4.0; heard = meaning block (meaning manchester heard) c.run.new.line; outlet = c.run.new.outlet } in
     let played = all_come_to state 0x0102 os _ (replicate 5 Set) c.run.new.outcomes a b c.requires (sym five) ran.2 ran.3 ran.4.1 in
-    let start = c.standard-reading-line.ensures.heard ∙ ap laid_over c.new.ensures in
+    let start = c.standard_reading-line.ensures.heard ∙ ap laid_over c.new.ensures in
     ap Ok (played ∙ ap (λ h. come_to 0x0102 off h os) start)

@@ -19,32 +19,32 @@ use Rattle.figures.proofs.sent.sent_and_read.Goals as goal
 abbrev heard : OctetLine → Heard
 heard s = octets_heard s.begun s.quiet s.given s.place s.bytes.now
 
-pub returns-in-err-new : goal.returns-in-err-new
-returns-in-err-new c l = elim c.in-err-new.ensures.0 [ inl e ↦ absurd (omega arith) | inr e ↦ absurd (omega arith) ]
+pub returns-in_err-new : goal.returns-in_err-new
+returns-in_err-new c l = elim c.in_err-new.ensures.0 [ inl e ↦ absurd (omega arith) | inr e ↦ absurd (omega arith) ]
 
-pub returns-in-err-facts : goal.returns-in-err-facts
-returns-in-err-facts c l =
-    let s = c.in-ok-new.field-0 in
-    let new = c.in-ok-new.ensures in
-    let bytes = c.as-slice.ensures.value ∙ c.in-ok-memory.ensures l in
-    let line = c.standard-reading-line.ensures.heard ∙ ap laid_over c.new.ensures ∙ ap heard_in bytes in
-    let is = ap (λ o. reading o s.filters 40 66 (meaning block (meaning manchester heard) c.standard-reading-line.result)) new.2
-    ∙ ap (λ f. reading 0x0102 f 40 66 (meaning block (meaning manchester heard) c.standard-reading-line.result)) new.3
+pub returns-in_err-facts : goal.returns-in_err-facts
+returns-in_err-facts c l =
+    let s = c.in_ok-new.field-0 in
+    let new = c.in_ok-new.ensures in
+    let bytes = c.as_slice.ensures.value ∙ c.in_ok-memory.ensures l in
+    let line = c.standard_reading-line.ensures.heard ∙ ap laid_over c.new.ensures ∙ ap heard_in bytes in
+    let is = ap (λ o. reading o s.filters 40 66 (meaning block (meaning manchester heard) c.standard_reading-line.result)) new.2
+    ∙ ap (λ f. reading 0x0102 f 40 66 (meaning block (meaning manchester heard) c.standard_reading-line.result)) new.3
     ∙ ap (reading 0x0102 off 40 66) line ∙ read_back (vec_items c.args.memory) in
-    let no : ◌≡◌ {A = Result Facts Refusal} (Err c.in-err-facts.field-0.0) (Ok (report_facts 40)) = c.in-err-facts.ensures.answers ∙ ap (told 40) is in
+    let no : ◌≡◌ {A = Result Facts Refusal} (Err c.in_err-facts.field-0.0) (Ok (report_facts 40)) = c.in_err-facts.ensures.answers ∙ ap (told 40) is in
     let z : ◌≡◌ {A = ℕ} 0 1 = cc in
     absurd (omega arith)
 
 pub returns : goal.returns
 returns c l =
-    let s = c.in-ok-new.field-0 in
-    let new = c.in-ok-new.ensures in
-    let bytes = c.as-slice.ensures.value ∙ c.in-ok-memory.ensures l in
-    let line = c.standard-reading-line.ensures.heard ∙ ap laid_over c.new.ensures ∙ ap heard_in bytes in
-    let is = ap (λ o. reading o s.filters 40 66 (meaning block (meaning manchester heard) c.standard-reading-line.result)) new.2
-    ∙ ap (λ f. reading 0x0102 f 40 66 (meaning block (meaning manchester heard) c.standard-reading-line.result)) new.3
+    let s = c.in_ok-new.field-0 in
+    let new = c.in_ok-new.ensures in
+    let bytes = c.as_slice.ensures.value ∙ c.in_ok-memory.ensures l in
+    let line = c.standard_reading-line.ensures.heard ∙ ap laid_over c.new.ensures ∙ ap heard_in bytes in
+    let is = ap (λ o. reading o s.filters 40 66 (meaning block (meaning manchester heard) c.standard_reading-line.result)) new.2
+    ∙ ap (λ f. reading 0x0102 f 40 66 (meaning block (meaning manchester heard) c.standard_reading-line.result)) new.3
     ∙ ap (reading 0x0102 off 40 66) line ∙ read_back (vec_items c.args.memory) in
-    let yes : ◌≡◌ {A = Result Facts Refusal} (Ok c.in-ok-facts.facts) (Ok (report_facts 40)) = c.in-ok-facts.ensures.answers ∙ ap (told 40) is in
-    let facts : c.in-ok-facts.facts ≡ report_facts 40 = cc in
-    let payload = c.in-ok-facts.ensures.buffer ∙ ap (λ r. buffer_left r (replicate 66 0)) is in
+    let yes : ◌≡◌ {A = Result Facts Refusal} (Ok c.in_ok-facts.facts) (Ok (report_facts 40)) = c.in_ok-facts.ensures.answers ∙ ap (told 40) is in
+    let facts : c.in_ok-facts.facts ≡ report_facts 40 = cc in
+    let payload = c.in_ok-facts.ensures.buffer ∙ ap (λ r. buffer_left r (replicate 66 0)) is in
     ap (λ f. Ok (f, c.read.new.buffer)) facts ∙ ap (λ p. Ok (report_facts 40, p)) payload
