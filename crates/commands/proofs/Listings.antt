@@ -1,9 +1,8 @@
 -- The receptions of a line, listed one after the other.
-use Rattle.std.proofs.Common.{◌≡◌, ℕ, ◌+◌, ◌<◌, ◌≤◌, min, Bool, true, false, eqb, List, [], ◌∷◌, ◌++◌, length, get_or, take, is_ok, Some, None, Ok, Err, codes, decimal, Result, sym, refl, ap, ◌∙◌, append_assoc, append-nil, arith}
+use Rattle.std.proofs.Common.{◌≡◌, ℕ, ◌+◌, ◌<◌, ◌≤◌, min, true, false, eqb, List, [], ◌∷◌, ◌++◌, length, get_or, take, is_ok, Some, Ok, codes, decimal, Result, sym, refl, ap, ◌∙◌, append_assoc, append-nil, arith}
 use Rattle.std.proofs.lemmas.List.{take_more, take_all}
 use Rattle.refusal.specs.declared.Refusal.{Refusal}
 use Rattle.radio.specs.declared.symbol.Symbol.{Symbol}
-use Rattle.radio.specs.declared.symbol.Symbol.TheVariants.{Clean, Spoiled}
 use Rattle.radio.specs.Reception.{Reception, Ending, whole, fault}
 use Rattle.radio.specs.Lines.{Heard, first, next, tail, found, opening, opened, taken as taken_from}
 use Rattle.commands.specs.Answers.{end_of_line, symbol_text, all_symbols, symbols_text, reception_line, reception_lines, listing_text}

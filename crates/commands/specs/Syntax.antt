@@ -1,5 +1,5 @@
 -- What the words of a line say, or why they cannot be read: the words in their order. Assumes nothing.
-use Rattle.std.specs.Prelude.{ℕ, Bool, true, false, cond, List, [], ◌∷◌, Some, None, Ok, Err, codes, Option, ◌==◌}
+use Rattle.std.specs.Prelude.{ℕ, Bool, false, cond, List, [], ◌∷◌, Some, None, Ok, Err, codes, Option, ◌==◌}
 use Rattle.text.specs.Figures.{number_word, address_word, dash, octets_read}
 use Rattle.text.specs.Reads.{Read, known, by_name, next, past, and_then, whole}
 use Rattle.commands.specs.declared.command.Verb.{Verb}

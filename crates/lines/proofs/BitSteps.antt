@@ -1,10 +1,10 @@
 -- The receptions of bits, from one place to the next.
-use Rattle.std.proofs.Common.{◌≡◌, ℕ, zero, suc, ◌+◌, ◌-◌, ◌<◌, ◌≤◌, true, false, ◌&&◌, eqb, ltb, List, [], ◌∷◌, length, get_or, take, drop, is_some, Some, None, Option, sym, refl, ap, ◌∙◌, subst, arith}
+use Rattle.std.proofs.Common.{◌≡◌, ℕ, zero, suc, ◌+◌, ◌-◌, ◌<◌, ◌≤◌, true, false, ◌&&◌, eqb, ltb, List, [], ◌∷◌, length, take, drop, is_some, Some, None, Option, sym, refl, ap, ◌∙◌, arith}
 use Rattle.std.proofs.lemmas.List.{drop-drop, length-drop, get_or-take, take-take, drop-take}
 use Rattle.std.proofs.lemmas.Bool.{and_parts, or_from, or_left, or_right, cond-true, cond-false, false≢true, lt-ltb, le-ltb}
 use Rattle.refusal.specs.declared.Cause.TheVariants.{Dry, Cut}
 use Rattle.radio.specs.declared.symbol.Symbol.{Symbol}
-use Rattle.radio.specs.Reception.{Reception, whole, made_at, ending_in, before}
+use Rattle.radio.specs.Reception.{whole, made_at, ending_in, before}
 use Rattle.lines.specs.HeardBits.{begins, sign, sign_here, sign_within, symbol_here, ends_it, next_in, reception_from, receptions_from}
 use Rattle.lines.specs.Looks.{NoSign, FirstOfTen}
 

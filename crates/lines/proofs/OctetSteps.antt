@@ -1,10 +1,10 @@
 -- The receptions of bytes, from one place to the next.
-use Rattle.std.proofs.Common.{◌≡◌, ℕ, suc, ◌+◌, ◌<◌, ◌≤◌, Bool, true, false, cond, ◌&&◌, eqb, ◌⊎◌, List, [], ◌∷◌, length, get_or, drop, sym, refl, ap, ◌∙◌, subst, inl, inr, ⊎_elim, arith}
+use Rattle.std.proofs.Common.{◌≡◌, ℕ, ◌+◌, ◌<◌, ◌≤◌, true, false, cond, ◌&&◌, eqb, List, [], ◌∷◌, length, get_or, drop, sym, refl, ap, ◌∙◌, ⊎_elim, arith}
 use Rattle.std.proofs.lemmas.List.{drop_more, drop_all, drop-drop, length-drop}
 use Rattle.std.proofs.lemmas.Bool.{cases_lt, and_parts, eqb-true, cond-true, cond-false, false≢true}
 use Rattle.refusal.specs.declared.Cause.TheVariants.{Dry, Cut}
 use Rattle.radio.specs.declared.symbol.Symbol.TheVariants.{Clean}
-use Rattle.radio.specs.Reception.{Reception, whole, made_at, ending_in, before}
+use Rattle.radio.specs.Reception.{whole, made_at, ending_in, before}
 use Rattle.lines.specs.HeardOctets.{sign_here, reception_from, receptions}
 
 -- a sign by its two bytes

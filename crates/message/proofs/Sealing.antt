@@ -1,10 +1,10 @@
 -- A head, a payload and a checksum, added to an empty buffer one after the other, are the message. Assumes nothing.
-use Rattle.std.proofs.Common.{◌≡◌, ℕ, ◌+◌, ◌/◌, ◌%◌, ◌≤◌, Bool, cond, leb, List, [], ◌∷◌, ◌++◌, length, sum, Option, sym, refl, ap, ◌∙◌, arith}
+use Rattle.std.proofs.Common.{◌≡◌, ℕ, ◌+◌, ◌/◌, ◌%◌, ◌≤◌, Bool, cond, leb, List, [], ◌∷◌, ◌++◌, length, sum, Option, ap, ◌∙◌, arith}
 use Rattle.std.proofs.lemmas.List.{length-append, length-take-le}
 use Rattle.std.proofs.lemmas.Bool.{le-leb, cond-true}
 use Rattle.message.specs.declared.buffer.Buffer.{Buffer}
 use Rattle.message.specs.Parts.{items}
-use Rattle.message.specs.Message.{Admissible, address, head, front, message, octets_of_word}
+use Rattle.message.specs.Message.{Admissible, head, front, message, octets_of_word}
 use Rattle.message.proofs.Format.{front_length, front_sum, address_length}
 
 pub items_length : {n : ℕ} (b : Buffer n) → length (items b) ≡ b.count

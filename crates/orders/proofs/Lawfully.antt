@@ -1,10 +1,9 @@
 -- The law of the whole radio. Assumes nothing.
-use Rattle.std.proofs.Common.{◌≡◌, ℕ, zero, suc, ◌+◌, ◌-◌, ◌*◌, ◌/◌, ◌<◌, ◌≤◌, Bool, true, false, cond, List, [], ◌∷◌, ◌++◌, length, take, replicate, Some, None, Option, sym, refl, ap, ◌∙◌, subst, arith, lit<}
-use Rattle.std.specs.List.{AllByRecursion as All}
+use Rattle.std.proofs.Common.{◌≡◌, ℕ, zero, suc, ◌+◌, ◌-◌, ◌/◌, ◌<◌, ◌≤◌, true, false, List, [], ◌∷◌, length, take, replicate, Some, None, Option, sym, ap, ◌∙◌, subst, arith, lit<}
 use Rattle.std.proofs.ByRecursion.{All-append}
-use Rattle.radio.specs.Reception.{Reception, Honest, marks, any_octet}
-use Rattle.radio.specs.Layer.{Pile, Octets as LayerOctets, Fit, Multiple, unit_of, sent_through, read_through, rule_of, may_of}
-use Rattle.radio.specs.Lines.{Heard, Sound, unit}
+use Rattle.radio.specs.Reception.{Reception, Honest, marks}
+use Rattle.radio.specs.Layer.{Pile, Octets as LayerOctets, Fit, unit_of, sent_through, read_through, rule_of, may_of}
+use Rattle.radio.specs.Lines.{Sound, unit}
 use Rattle.radio.specs.Outlets.{State}
 use Rattle.radio.proofs.Honesty.{every_pile}
 use Rattle.message.specs.Message.{Octets, Lawful}
@@ -14,9 +13,8 @@ use Rattle.orders.specs.declared.order.Order.TheVariants.{Read}
 use Rattle.orders.specs.declared.order.Outcome.{Outcome}
 use Rattle.station.specs.Filtering.{off, withheld}
 use Rattle.station.specs.Nearness.{Near, Few, padded, rounded}
-use Rattle.station.specs.Judging.{reading}
 use Rattle.station.specs.Exactness.{Iff}
-use Rattle.orders.specs.Runs.{Stand, read_outcome, Step, Plays}
+use Rattle.orders.specs.Runs.{Stand, Step, Plays}
 use Rattle.orders.specs.Law.{nth, opens, opened, setting, settings, HandsUp, Stops, Radio}
 use Rattle.station.proofs.Exactly.{unique}
 use Rattle.orders.proofs.Padding.{padded_count}

@@ -1,9 +1,8 @@
 -- A message padded to the unit, and when it may be begun. Assumes nothing.
-use Rattle.std.proofs.Common.{◌≡◌, ℕ, ◌+◌, ◌-◌, ◌*◌, ◌/◌, ◌%◌, ◌<◌, ◌≤◌, min, true, ◌&&◌, eqb, leb, List, [], ◌∷◌, ◌++◌, length, take, replicate, None, Option, Result, sym, refl, ap, ◌∙◌, subst, suc-add, zero-add, arith}
+use Rattle.std.proofs.Common.{◌≡◌, ℕ, ◌+◌, ◌-◌, ◌/◌, ◌%◌, ◌≤◌, true, eqb, leb, List, [], ◌∷◌, ◌++◌, length, take, replicate, None, sym, ap, ◌∙◌, suc-add, zero-add, arith}
 use native.Mathlib.Nat.{mul-mod_right}
 use Rattle.std.proofs.lemmas.List.{length-append, length-replicate, take-replicate}
 use Rattle.std.proofs.lemmas.Bool.{and_from, le-leb, eq-eqb}
-use Rattle.refusal.specs.declared.Refusal.{Refusal}
 use Rattle.refusal.specs.declared.Refusal.TheVariants.{Unit as UnitOver, Argument, Turn as OutOfTurn, Uneven, Space}
 use Rattle.radio.specs.Outlets.{State, Sound, unit, unless, a_preamble, idle, even, needed, begin_refusal}
 use Rattle.radio.proofs.Honesty.{every_pile}

@@ -1,12 +1,12 @@
 -- What one order of a run shows of the law. Assumes nothing.
-use Rattle.std.proofs.Common.{◌≡◌, ℕ, zero, suc, ◌+◌, ◌<◌, ◌≤◌, Bool, true, false, cond, not, ◌&&◌, eqb, leb, ◌⊎◌, List, [], ◌∷◌, ◌++◌, length, take, drop, replicate, Some, None, Ok, Err, Option, Result, sym, refl, ap, ◌∙◌, subst, inl, inr, zero-add, one-add, arith}
+use Rattle.std.proofs.Common.{◌≡◌, ℕ, ◌+◌, ◌<◌, ◌≤◌, Bool, true, false, cond, not, ◌&&◌, eqb, leb, ◌⊎◌, List, [], ◌∷◌, length, take, drop, replicate, Some, None, Ok, Err, Option, Result, sym, refl, ap, ◌∙◌, subst, inl, inr, zero-add, one-add, arith}
 use borrow.Author.Tests.{clash}
 use Rattle.std.proofs.lemmas.List.{take_at}
 use Rattle.std.proofs.lemmas.Bool.{le-leb, lt-leb, cases_lt}
 use Rattle.refusal.specs.declared.Cause.{Cause}
 use Rattle.refusal.specs.declared.Cause.TheVariants.{Dry, Cut, Torn}
 use Rattle.refusal.specs.declared.Refusal.{Refusal}
-use Rattle.refusal.specs.declared.Refusal.TheVariants.{Short, Unit as UnitOver, Quiet, Fault as Faulty, Extent, Spoiled as Spoilt, Count, Pad, Sum, «Type» as TypeOctet, Range, Address, Weak, Other, Muted, Argument}
+use Rattle.refusal.specs.declared.Refusal.TheVariants.{Short, Unit as UnitOver, Quiet, Extent, Spoiled as Spoilt, Count, Pad, Sum, «Type» as TypeOctet, Range, Address, Weak, Other, Muted, Argument}
 use Rattle.refusal.specs.Names.{cause_number}
 use Rattle.radio.specs.declared.symbol.Symbol.{Symbol}
 use Rattle.radio.specs.Reception.{Reception, Ending, whole, fault}
@@ -19,12 +19,12 @@ use Rattle.station.specs.declared.filters.Filters.{Filters}
 use Rattle.orders.specs.declared.order.Order.{Order}
 use Rattle.orders.specs.declared.order.Order.TheVariants.{Strength, Identity, Mute, Read, Send}
 use Rattle.orders.specs.declared.order.Outcome.{Outcome}
-use Rattle.orders.specs.declared.order.Outcome.TheVariants.{Set, Sent as WasSent, Message, Refused}
+use Rattle.orders.specs.declared.order.Outcome.TheVariants.{Set, Refused}
 use Rattle.station.specs.Filtering.{with_mute, weak, other, muted, withheld}
 use Rattle.station.specs.Nearness.{Near, rounded}
-use Rattle.station.specs.Judging.{require, then_check, filled, missing_octet, spoiled_place, few_spoiled, number, blank, sum_right, in_range, addresses_fit, judged, summed, mended, sum_checked, fields_checked, ended_whole, collected, filtered, passed, believed, received, of_coming, reading, listened, line_left, buffer_left}
+use Rattle.station.specs.Judging.{require, then_check, filled, missing_octet, spoiled_place, few_spoiled, number, blank, sum_right, in_range, addresses_fit, judged, summed, mended, fields_checked, ended_whole, collected, filtered, passed, believed, received, of_coming, reading, listened, line_left, buffer_left}
 use Rattle.station.specs.Exactness.{Iff}
-use Rattle.orders.specs.Runs.{Stand, mute_outcome, read_outcome, send_outcome, Step}
+use Rattle.orders.specs.Runs.{Stand, read_outcome, send_outcome, Step}
 use Rattle.orders.specs.Law.{nth, stopped, opens, setting, HandsUp, Stops}
 use Rattle.station.proofs.Exactly.{exact}
 

@@ -3,7 +3,7 @@ use Rattle.std.proofs.Common.{◌≡◌, ℕ, ◌≤◌, Bool, true, false, not,
 use Rattle.radio.specs.declared.symbol.Symbol.{Symbol}
 use Rattle.radio.specs.declared.symbol.Symbol.TheVariants.{Clean, Spoiled}
 use Rattle.radio.specs.Reception.{Reception, Honest, mark, marks, any_octet, clean, AllAsWritten}
-use Rattle.radio.specs.Layer.{Layer, Pile, Laws, Fit, Multiple, Octets, All, unit_of, cost_of, sent_through, read_through, rule_of, may_of}
+use Rattle.radio.specs.Layer.{Layer, Pile, Fit, Multiple, Octets, All, unit_of, cost_of, sent_through, read_through, rule_of, may_of}
 use Rattle.radio.specs.Piles.{KeepsTheLaws}
 
 -- what is honest with every octet allowed is honest under a layer that may write fewer

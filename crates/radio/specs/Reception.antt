@@ -1,5 +1,5 @@
 -- A reception: the symbols that a line gives between two openings, and how it ended. Assumes nothing.
-use Rattle.std.specs.Prelude.{◌≡◌, ℕ, ◌+◌, min, Bool, true, false, not, List, [], ◌∷◌, map}
+use Rattle.std.specs.Prelude.{◌≡◌, ℕ, ◌+◌, min, Bool, true, not, List, [], ◌∷◌, map}
 use Rattle.refusal.specs.declared.Cause.{Cause}
 use Rattle.refusal.specs.declared.Cause.TheVariants.{Dry}
 use Rattle.refusal.specs.declared.Fault.{Fault}

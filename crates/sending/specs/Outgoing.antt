@@ -1,5 +1,5 @@
 -- What a sending half means over the outlet below. Assumes nothing.
-use Rattle.std.specs.Prelude.{ℕ, ◌-◌, ◌*◌, ◌/◌, ◌%◌, ◌≤◌, min, cond, List, [], ◌∷◌, length, take, ◌==◌}
+use Rattle.std.specs.Prelude.{ℕ, ◌-◌, ◌*◌, ◌/◌, ◌%◌, ◌≤◌, min, cond, List, ◌∷◌, length, take, ◌==◌}
 use Rattle.radio.specs.declared.turn.Turn.{Turn}
 use Rattle.radio.specs.declared.turn.Turn.TheVariants.{Idle, Owing, Stuck}
 use Rattle.radio.specs.Layer.{Fit}

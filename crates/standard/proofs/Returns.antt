@@ -1,10 +1,10 @@
 -- What was written comes back. Assumes nothing.
-use Rattle.std.proofs.Common.{◌≡◌, ℕ, zero, suc, ◌+◌, ◌*◌, ◌≤◌, Bool, true, false, cond, ◌&&◌, eqb, List, [], ◌∷◌, ◌++◌, map, length, take, drop, replicate, sym, refl, ap, ◌∙◌, subst, append_assoc, one-mul, arith, lit≤, ne_eqb}
+use Rattle.std.proofs.Common.{◌≡◌, ℕ, zero, suc, ◌+◌, ◌*◌, ◌≤◌, true, false, cond, ◌&&◌, eqb, List, [], ◌∷◌, ◌++◌, map, length, take, drop, replicate, sym, refl, ap, ◌∙◌, append_assoc, one-mul, arith, lit≤, ne_eqb}
 use mathlib.Core.Bool.{false≢true}
 use Rattle.refusal.specs.declared.Cause.TheVariants.{Cut}
 use Rattle.radio.specs.declared.symbol.Symbol.TheVariants.{Clean}
-use Rattle.radio.specs.Reception.{Reception, whole, made_at, ending_in, before, clean}
-use Rattle.radio.specs.Layer.{Layer, Fit, Octets, All, read_through, sent_through}
+use Rattle.radio.specs.Reception.{whole, made_at, ending_in, before, clean}
+use Rattle.radio.specs.Layer.{Fit, Octets, All, read_through, sent_through}
 use Rattle.lines.specs.HeardOctets.{sign_here, reception_from, receptions}
 use Rattle.radio.specs.Outlets.{laid_over, message, start, stop}
 use Rattle.outlets.specs.Bottoms.{one_cell, joined_one}

@@ -1,21 +1,21 @@
 -- A read hands up exactly the lawful, near and unwithheld message. Assumes nothing.
-use Rattle.std.proofs.Common.{◌≡◌, ℕ, zero, suc, ◌+◌, ◌-◌, ◌*◌, ◌/◌, ◌%◌, ◌<◌, ◌≤◌, Bool, true, false, not, ◌&&◌, ◌||◌, eqb, ltb, leb, ◌⊎◌, List, [], ◌∷◌, ◌++◌, length, get_or, take, drop, set, replicate, Ok, Err, sum, Result, sym, refl, ap, ◌∙◌, subst, inl, inr, mod-lt, arith, lit≤}
+use Rattle.std.proofs.Common.{◌≡◌, ℕ, zero, suc, ◌+◌, ◌-◌, ◌*◌, ◌/◌, ◌%◌, ◌<◌, ◌≤◌, Bool, true, false, not, ◌&&◌, ◌||◌, eqb, ltb, leb, ◌⊎◌, List, [], ◌∷◌, ◌++◌, length, take, drop, set, replicate, Ok, Err, sum, Result, sym, refl, ap, ◌∙◌, subst, inl, inr, mod-lt, arith, lit≤}
 use native.Mathlib.Nat.{div-add-mod}
 use borrow.Author.Tests.{clash}
 use Rattle.std.proofs.lemmas.List.{length-append, length-replicate, length-map, length-take-le, length-drop, take-append-drop, take_at, drop_at, set-get_or, set_past}
-use Rattle.std.proofs.lemmas.Bool.{and_parts, and_from, leb-true, le-leb, eqb-true, eq-eqb, ltb-true, lt-ltb, cond-true, cond-false, cases_lt, cases_eq, or_parts, or_from, not-true, not_from_false}
+use Rattle.std.proofs.lemmas.Bool.{and_parts, and_from, leb-true, le-leb, eqb-true, eq-eqb, cond-true, cond-false, cases_lt, cases_eq, or_parts, or_from, not-true, not_from_false}
 use Rattle.refusal.specs.declared.Refusal.{Refusal}
-use Rattle.refusal.specs.declared.Refusal.TheVariants.{Fault as Faulty, Extent, Spoiled as Spoilt, Count, Pad, Sum, «Type» as TypeOctet, Range, Address, Weak, Other, Muted}
+use Rattle.refusal.specs.declared.Refusal.TheVariants.{Extent, Spoiled as Spoilt, Count, Pad, Sum, «Type» as TypeOctet, Range, Address, Weak, Other, Muted}
 use Rattle.radio.specs.declared.symbol.Symbol.{Symbol}
 use Rattle.radio.specs.declared.symbol.Symbol.TheVariants.{Clean, Spoiled}
-use Rattle.radio.specs.Reception.{Reception, Ending, whole, fault, Honest}
+use Rattle.radio.specs.Reception.{Reception, Ending, whole, fault}
 use Rattle.message.specs.Message.{Octets, at, kind, head_length, source, destination, sum_field, Addressed, Lawful, within, addressed, all_octets}
 use Rattle.message.proofs.Format.{within_parts, within_from, decides_addressed}
 use Rattle.station.specs.declared.filters.Filters.{Filters}
 use Rattle.station.specs.Filtering.{weak, other, muted, withheld}
 use Rattle.station.specs.Nearness.{rounded, padded, Near}
 use Rattle.station.specs.Judging.{require, then_check, few_spoiled, one_spoiled, spoiled_place, number, blank, filled, missing_octet, sum_right, sum_checked, mended, in_range, addresses_fit, fields_checked, summed, judged, ended_whole, collected, filtered, passed, believed, received}
-use Rattle.station.specs.Exactness.{Iff, Exact, Unique}
+use Rattle.station.specs.Exactness.{Exact, Unique}
 use Rattle.station.proofs.Collecting.{some as taken}
 use Rattle.station.proofs.Judged.{passes, goes_on, all_blank}
 use Rattle.station.proofs.Spoilt.{few_part}

@@ -1,6 +1,5 @@
 -- What the checks of a reception's octets come to, one after the other. Assumes nothing.
 use Rattle.std.proofs.Common.{◌≡◌, ℕ, ◌≤◌, Bool, true, false, ◌&&◌, eqb, List, length, take, drop, Ok, Err, Result, sym, refl, ap, ◌∙◌, arith}
-use borrow.Author.Tests.{clash}
 use Rattle.std.proofs.lemmas.Bool.{and_from, le-leb, eq-eqb}
 use Rattle.refusal.specs.declared.Refusal.{Refusal}
 use Rattle.refusal.specs.declared.Refusal.TheVariants.{Spoiled as Spoilt, Count, Pad}

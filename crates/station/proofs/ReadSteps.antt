@@ -1,5 +1,5 @@
 -- What a read that opens a reception answers and leaves. Assumes nothing.
-use Rattle.std.proofs.Common.{◌≡◌, ℕ, ◌+◌, ◌≤◌, min, true, cond, ◌&&◌, leb, List, [], ◌∷◌, ◌++◌, length, take, drop, Ok, Err, Result, sym, refl, ap, ◌∙◌, subst, arith}
+use Rattle.std.proofs.Common.{◌≡◌, ℕ, ◌≤◌, min, true, cond, leb, List, [], ◌∷◌, ◌++◌, length, take, drop, Ok, Err, sym, refl, ap, ◌∙◌, arith}
 use Rattle.std.proofs.lemmas.Bool.{and_from, le-leb}
 use Rattle.refusal.specs.declared.Refusal.{Refusal}
 use Rattle.refusal.specs.declared.Refusal.TheVariants.{Short, Unit as UnitOver}
@@ -9,8 +9,8 @@ use Rattle.radio.proofs.Honesty.{every_pile}
 use Rattle.message.specs.Message.{kind, destination, payload, head_length}
 use Rattle.station.specs.declared.filters.Filters.{Filters}
 use Rattle.station.specs.declared.filters.Facts.{Facts}
-use Rattle.station.specs.Judging.{require, then_check, believed, filtered, passed, received, of_coming, reading, facts_of, told, buffer_left, listened, line_left}
-use Rattle.station.specs.Receiving.{Stands, Received}
+use Rattle.station.specs.Judging.{require, then_check, believed, filtered, passed, received, of_coming, reading, listened, line_left}
+use Rattle.station.specs.Receiving.{Stands}
 
 -- a unit that is answered as at most 24 is the line's unit
 pub unit_is : (h : Heard) (u : ℕ) → u ≡ min (unit h) 65535 → u ≤ 24 → u ≡ unit h

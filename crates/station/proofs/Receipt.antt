@@ -1,7 +1,7 @@
 -- A reception that was collected, judged and checked. Assumes nothing.
-use Rattle.std.proofs.Common.{◌≡◌, ℕ, ◌+◌, ◌-◌, ◌≤◌, true, eqb, leb, List, length, take, drop, Ok, Err, Result, sym, refl, ap, ◌∙◌, arith, MatchResult}
+use Rattle.std.proofs.Common.{◌≡◌, ℕ, ◌+◌, ◌-◌, ◌≤◌, leb, List, length, take, drop, Ok, Err, Result, sym, ap, ◌∙◌, arith, MatchResult}
 use Rattle.std.proofs.lemmas.List.{length-drop, length-take-le, drop-take, take-take}
-use Rattle.std.proofs.lemmas.Bool.{and_parts, leb-true, cases_Bool}
+use Rattle.std.proofs.lemmas.Bool.{and_parts, leb-true}
 use Rattle.refusal.specs.declared.Refusal.{Refusal}
 use Rattle.refusal.specs.declared.Refusal.TheVariants.{«Type» as TypeOctet, Range, Address}
 use Rattle.radio.specs.declared.symbol.Symbol.{Symbol}

@@ -1,11 +1,11 @@
 -- Where symbols are spoiled. Assumes nothing.
-use Rattle.std.proofs.Common.{◌≡◌, ℕ, zero, suc, ◌+◌, ◌<◌, ◌≤◌, Bool, true, false, cond, List, [], ◌∷◌, length, take, drop, set, Ok, Err, Result, sym, refl, ap, ◌∙◌, one-add, arith}
+use Rattle.std.proofs.Common.{◌≡◌, ℕ, zero, suc, ◌+◌, ◌<◌, ◌≤◌, Bool, true, false, List, [], ◌∷◌, length, take, drop, set, Ok, Err, Result, sym, refl, ap, ◌∙◌, one-add, arith}
 use borrow.Author.Tests.{clash}
 use Rattle.radio.specs.declared.symbol.Symbol.{Symbol}
 use Rattle.radio.specs.declared.symbol.Symbol.TheVariants.{Clean, Spoiled}
 use Rattle.refusal.specs.declared.Refusal.{Refusal}
 use Rattle.refusal.specs.declared.Refusal.TheVariants.{Spoiled as Spoilt}
-use Rattle.station.specs.Judging.{require, is_clean, spoiled_place, all_clean, one_spoiled, few_spoiled, filled}
+use Rattle.station.specs.Judging.{require, spoiled_place, all_clean, one_spoiled, few_spoiled, filled}
 
 pub clean_all : (ss : List Symbol) → spoiled_place ss ≡ length ss → all_clean ss ≡ true
 clean_all [] e = refl

@@ -1,8 +1,8 @@
 -- Octets, and what Sum says of them. Assumes nothing.
-use Rattle.std.proofs.Common.{◌≡◌, ℕ, ◌<◌, Bool, true, false, ◌&&◌, eqb, ltb, List, length, get_or, set, Ok, Err, Decides, sym, refl, ap, ◌∙◌, arith}
+use Rattle.std.proofs.Common.{◌≡◌, ℕ, ◌<◌, Bool, true, false, ◌&&◌, ltb, List, length, set, Ok, Err, Decides, refl, ap, arith}
 use Rattle.std.proofs.ByRecursion.{All-get_or, Decides-by_and}
 use Rattle.std.proofs.lemmas.List.{get_or-set_same, length-set}
-use Rattle.std.proofs.lemmas.Bool.{and_from, and_left, and_right, cases_Bool}
+use Rattle.std.proofs.lemmas.Bool.{and_from}
 use Rattle.std.proofs.lemmas.Bool.Decides.{Decides-ltb}
 use Rattle.refusal.specs.declared.Refusal.TheVariants.{Sum}
 use Rattle.message.specs.Message.{Octets, all_octets}

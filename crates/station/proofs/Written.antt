@@ -1,12 +1,12 @@
 -- Symbols that are as written, and how many of them are spoiled. Assumes nothing.
-use Rattle.std.proofs.Common.{◌≡◌, ℕ, zero, suc, ◌+◌, ◌<◌, ◌≤◌, Bool, true, false, ◌&&◌, eqb, List, [], ◌∷◌, ◌++◌, map, length, take, drop, set, replicate, sym, refl, ap, ◌∙◌, subst, one-add, arith}
+use Rattle.std.proofs.Common.{◌≡◌, ℕ, zero, suc, Bool, true, ◌&&◌, eqb, List, [], ◌∷◌, ◌++◌, map, length, take, drop, set, replicate, sym, refl, ap, ◌∙◌, one-add}
 use borrow.Author.Tests.{clash}
 use Rattle.std.proofs.lemmas.Bool.{and_parts, eqb-true, eq-eqb}
 use Rattle.radio.specs.declared.symbol.Symbol.{Symbol}
 use Rattle.radio.specs.declared.symbol.Symbol.TheVariants.{Clean, Spoiled}
-use Rattle.radio.specs.Reception.{mark, any_octet, AsWritten, AllAsWritten}
+use Rattle.radio.specs.Reception.{mark, any_octet, AllAsWritten}
 use Rattle.station.specs.Nearness.{NoneMarked, OneAtMost, Few}
-use Rattle.station.specs.Judging.{is_clean, value_or, filled, spoiled_place, all_clean, one_spoiled, few_spoiled, number, blank}
+use Rattle.station.specs.Judging.{filled, spoiled_place, all_clean, one_spoiled, few_spoiled, number, blank}
 
 abbrev pub Agree : List Symbol → List ℕ → Type 0
 Agree ss ws = AllAsWritten any_octet ss ws

@@ -1,6 +1,6 @@
-use Rattle.std.proofs.Common.{◌≡◌, ◌++◌, string_bytes, sym, ap, ◌∙◌}
+use Rattle.std.proofs.Common.{◌≡◌, string_bytes, sym, ◌∙◌}
 use Rattle.std.proofs.lemmas.Result.{IfOk-weaker}
-use Rattle.commands.specs.Answers.{reception_line, listing_text}
+use Rattle.commands.specs.Answers.{listing_text}
 use Rattle.commands.proofs.Listings.{listed_more, listed_all}
 use Rattle.commands.proofs.listing.listing.Goals as goal
 

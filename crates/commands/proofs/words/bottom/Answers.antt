@@ -1,7 +1,6 @@
 use Rattle.std.proofs.Common.{codes}
-use Rattle.std.proofs.lemmas.Result.{err_from_is_err_and}
 use Rattle.text.specs.Words.{to_come}
-use Rattle.text.proofs.Steps.{told_word, told_missing}
+use Rattle.text.proofs.Steps.{told_word}
 use Rattle.commands.specs.Syntax.{bottom_word}
 use Rattle.commands.proofs.words.bottom.Goals as goal
 

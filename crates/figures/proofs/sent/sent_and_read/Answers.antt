@@ -1,4 +1,4 @@
-use Rattle.std.proofs.Common.{◌≡◌, ℕ, replicate, Ok, Err, vec_items, Result, sym, ap, ◌∙◌, inl, inr, arith}
+use Rattle.std.proofs.Common.{◌≡◌, ℕ, replicate, Ok, Err, vec_items, Result, ap, ◌∙◌, inl, inr, arith}
 use Rattle.refusal.specs.declared.Refusal.{Refusal}
 use Rattle.radio.specs.Lines.{Heard}
 use Rattle.lines.specs.declared.octet_line.OctetLine.{OctetLine}
@@ -11,8 +11,7 @@ use Rattle.station.specs.declared.filters.Facts.{Facts}
 use Rattle.station.specs.Filtering.{off}
 use Rattle.station.specs.Judging.{reading, told, buffer_left}
 use Rattle.figures.specs.Orders.{heard_in}
-use Rattle.figures.specs.Table.{report}
-use Rattle.figures.specs.Recorded.{report_facts, report_payload}
+use Rattle.figures.specs.Recorded.{report_facts}
 use Rattle.figures.proofs.Sendings.{read_back}
 use Rattle.figures.proofs.sent.sent_and_read.Goals as goal
 

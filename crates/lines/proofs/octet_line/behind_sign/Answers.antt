@@ -1,6 +1,6 @@
-use Rattle.std.proofs.Common.{◌≡◌, ◌<◌, true, false, length, drop, sym, ap, ◌∙◌, arith}
+use Rattle.std.proofs.Common.{sym, ap, ◌∙◌, arith}
 use Rattle.std.proofs.lemmas.List.{drop_all}
-use Rattle.lines.specs.HeardOctets.{sign_here, receptions}
+use Rattle.lines.specs.HeardOctets.{receptions}
 use Rattle.lines.proofs.OctetSteps.{found_at, passed}
 use Rattle.lines.proofs.octet_line.behind_sign.Goals as goal
 

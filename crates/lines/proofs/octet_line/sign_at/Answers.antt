@@ -1,4 +1,4 @@
-use Rattle.std.proofs.Common.{◌≡◌, ◌+◌, ◌&&◌, eqb, get_or, sym, ap, ◌∙◌, eq-eqb, ne_eqb}
+use Rattle.std.proofs.Common.{◌+◌, ◌&&◌, eqb, get_or, sym, ap, ◌∙◌, eq-eqb, ne_eqb}
 use Rattle.lines.proofs.OctetSteps.{sign_long, sign_short}
 use Rattle.lines.proofs.octet_line.sign_at.Goals as goal
 

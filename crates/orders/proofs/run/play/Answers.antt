@@ -1,10 +1,10 @@
-use Rattle.std.proofs.Common.{◌≡◌, Err, Result, sym, refl, ap, ◌∙◌, subst}
+use Rattle.std.proofs.Common.{Result, sym, refl, subst}
 use Rattle.refusal.specs.declared.Refusal.{Refusal}
 use Rattle.radio.specs.Outlets.{Leaves}
 use Rattle.message.specs.Parts.{items}
 use Rattle.orders.specs.declared.order.Order.{Order}
 use Rattle.orders.specs.declared.order.Outcome.TheVariants.{Sent as WasSent, Refused}
-use Rattle.orders.specs.Runs.{Stand, Step}
+use Rattle.orders.specs.Runs.{Step}
 use Rattle.orders.specs.Sending.{Sent, send_refusal}
 use Rattle.orders.proofs.Playing.{send_accepted, send_refused}
 use Rattle.orders.proofs.run.play.Goals as goal

@@ -1,6 +1,5 @@
 use Rattle.std.proofs.Common.{◌≡◌, length, take, drop}
-use Rattle.station.specs.Filtering.{off}
-use Rattle.orders.specs.Runs.{Stand, Plays}
+use Rattle.orders.specs.Runs.{Plays}
 use Rattle.orders.proofs.run.run.Given as goal
 
 abbrev pub invariant-loop-i : goal.invariant-loop-i

@@ -1,5 +1,5 @@
-use Rattle.std.proofs.Common.{◌≡◌, ℕ, ◌-◌, ◌≤◌, List, ◌++◌, length, take, replicate, sym, refl, ap, ◌∙◌, subst, arith, rules}
-use Rattle.radio.specs.Outlets.{unit, answer, begin_refusal, Leaves, Written}
+use Rattle.std.proofs.Common.{◌≡◌, ℕ, ◌-◌, ◌≤◌, ◌++◌, length, take, replicate, ap, ◌∙◌, arith}
+use Rattle.radio.specs.Outlets.{unit, answer, begin_refusal}
 use Rattle.message.specs.Parts.{items}
 use Rattle.message.proofs.Sealing.{items_length}
 use Rattle.station.specs.Nearness.{rounded, padded}

@@ -1,11 +1,11 @@
-use Rattle.std.proofs.Common.{◌≡◌, ℕ, ◌+◌, ◌<◌, ◌≤◌, length, take, Some, None, Ok, Err, Result, sym, ap, ◌∙◌, subst, arith, rules, MatchResult}
+use Rattle.std.proofs.Common.{◌≡◌, ℕ, ◌+◌, ◌<◌, ◌≤◌, length, take, Some, None, Ok, Err, Result, sym, ap, ◌∙◌, subst, arith, MatchResult}
 use Rattle.std.proofs.lemmas.List.{length-set, take_all}
 use Rattle.std.proofs.lemmas.Result.{err_from_is_err_and}
 use Rattle.refusal.specs.declared.Refusal.{Refusal}
 use Rattle.radio.specs.Lines.{next, past}
 use Rattle.radio.proofs.Taking.{more_next, some_next, none_next, fault_next}
 use Rattle.station.specs.Judging.{collected}
-use Rattle.station.proofs.Collecting.{too_many, faulted, some, none}
+use Rattle.station.proofs.Collecting.{too_many, faulted, some}
 use Rattle.station.proofs.collect.collect.Goals as goal
 
 pub returns-in_err-symbol : goal.returns-in_err-symbol

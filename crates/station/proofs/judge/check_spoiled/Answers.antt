@@ -1,4 +1,4 @@
-use Rattle.std.proofs.Common.{◌+◌, ◌<◌, List, length, arith}
+use Rattle.std.proofs.Common.{◌+◌, ◌<◌, length, arith}
 use Rattle.std.proofs.lemmas.List.{take_rest}
 use Rattle.station.proofs.Spoilt.{place_none, place_first, place_two, place_one}
 use Rattle.station.proofs.judge.check_spoiled.Goals as goal

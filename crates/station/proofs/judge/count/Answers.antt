@@ -1,8 +1,7 @@
-use Rattle.std.proofs.Common.{◌≡◌, ◌≤◌, true, false, length, drop, Ok, sym, ap, ◌∙◌, arith, rules}
+use Rattle.std.proofs.Common.{Ok, sym, ap, ◌∙◌, arith}
 use Rattle.refusal.specs.declared.Refusal.TheVariants.{Spoiled as Spoilt}
 use Rattle.std.proofs.lemmas.List.{take_rest}
 use Rattle.station.specs.Judging.{few_spoiled, blank}
-use Rattle.station.specs.Nearness.{rounded}
 use Rattle.station.proofs.Judged.{passes, not_blank, all_blank}
 use Rattle.station.proofs.judge.count.Goals as goal
 

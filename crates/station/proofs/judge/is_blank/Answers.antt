@@ -1,7 +1,7 @@
-use Rattle.std.proofs.Common.{◌≡◌, ◌+◌, ◌&&◌, eqb, ◌∷◌, length, get_or, drop, sym, refl, ap, ◌∙◌, rules}
+use Rattle.std.proofs.Common.{◌≡◌, ◌+◌, ◌&&◌, eqb, ◌∷◌, get_or, drop, sym, ap, ◌∙◌}
 use Rattle.std.proofs.lemmas.List.{at_drop_more, at_drop_all}
 use Rattle.std.proofs.lemmas.Bool.{and_left, ne_eqb, eq-eqb}
-use Rattle.radio.specs.declared.symbol.Symbol.TheVariants.{Clean, Spoiled}
+use Rattle.radio.specs.declared.symbol.Symbol.TheVariants.{Clean}
 use Rattle.station.specs.Judging.{blank}
 use Rattle.station.proofs.judge.is_blank.Goals as goal
 use Rattle.station.proofs.judge.is_blank.Goals.{in-Clean+else-value-ne0, in_default}

@@ -1,8 +1,7 @@
-use Rattle.std.proofs.Common.{◌≡◌, ℕ, ◌-◌, ◌<◌, List, length, take, set, Ok, Err, sum, sym, refl, ap, ◌∙◌, subst, arith, rules}
+use Rattle.std.proofs.Common.{◌≡◌, ◌<◌, set, sym, ap, ◌∙◌, arith}
 use Rattle.std.proofs.lemmas.List.{set_past}
 use Rattle.std.proofs.lemmas.Bool.{and_left, and_right, eq-eqb, ne_eqb}
-use Rattle.message.specs.Message.{all_octets, sum_field}
-use Rattle.refusal.specs.declared.Refusal.TheVariants.{Sum}
+use Rattle.message.specs.Message.{all_octets}
 use Rattle.station.specs.Judging.{missing_octet, sum_right, sum_checked}
 use Rattle.station.proofs.Sums.{no_octet, sum_refused, sum_accepted}
 use Rattle.station.proofs.mend.mend.Goals as goal

@@ -1,4 +1,4 @@
-use Rattle.std.proofs.Common.{◌≡◌, ℕ, ◌-◌, ◌%◌, ◌<◌, ◌≤◌, length, get_or, take, sum, sym, ap, ◌∙◌, arith, rules}
+use Rattle.std.proofs.Common.{◌≡◌, ℕ, ◌-◌, ◌%◌, ◌<◌, ◌≤◌, length, get_or, take, sum, ap, ◌∙◌, arith, rules}
 use Rattle.std.proofs.ByRecursion.{All-from_get_or, All-take}
 use Rattle.std.proofs.lemmas.List.{length-take-le}
 use Rattle.message.specs.Message.{Octets}

@@ -1,8 +1,7 @@
-use Rattle.std.proofs.Common.{◌≡◌, ℕ, ◌-◌, ◌≤◌, length, take, Ok, Err, Result, sym, refl, ap, ◌∙◌, subst, arith, rules}
+use Rattle.std.proofs.Common.{◌≡◌, ◌-◌, length, take, Ok, Err, Result, sym, ap, ◌∙◌, subst, arith, rules}
 use Rattle.std.proofs.lemmas.Result.{err_from_is_err_and}
 use Rattle.refusal.specs.declared.Refusal.{Refusal}
 use Rattle.station.specs.declared.filters.Facts.{Facts}
-use Rattle.station.specs.Judging.{collected, summed, fields_checked}
 use Rattle.station.specs.Receiving.{Received}
 use Rattle.station.proofs.Receipt.{not_judged, received}
 use Rattle.station.proofs.receive.receive.Goals as goal

@@ -1,4 +1,4 @@
-use Rattle.std.proofs.Common.{◌≡◌, arith, rules}
+use Rattle.std.proofs.Common.{arith, rules}
 use Rattle.std.proofs.lemmas.Result.{err_from_is_err_and}
 use Rattle.wln.proofs.Sealings.{accepted, too_long, none_held}
 use Rattle.wln.proofs.seal.sealed.Goals as goal

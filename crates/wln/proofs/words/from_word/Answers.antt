@@ -1,5 +1,5 @@
 use Rattle.std.proofs.Common.{◌<◌, ◌≤◌, length, sym, ◌∙◌, arith, ltb-false, ltb-true}
-use Rattle.wln.proofs.Lines.{from_step, from_here, from_end}
+use Rattle.wln.proofs.Lines.{from_step, from_end}
 use Rattle.wln.proofs.words.from_word.Goals as goal
 
 pub loop-rest-preserved : goal.loop-rest-preserved

@@ -4,7 +4,7 @@ use Rattle.refusal.specs.declared.Cause.TheVariants.{Dry, Cut}
 use Rattle.radio.specs.Reception.{whole, made_at, before}
 use Rattle.radio.specs.Lines.{to_come}
 use Rattle.radio.specs.Bits.{bits, bits_of}
-use Rattle.lines.specs.HeardBits.{symbol_here, reception_from, receptions_from}
+use Rattle.lines.specs.HeardBits.{reception_from, receptions_from}
 use Rattle.lines.proofs.AtBottom.{takes_end, takes_next}
 use Rattle.lines.proofs.BitSteps.{looked, some_of_ten, none_of_ten, none_within, passed, cut_at, dry_at, whole_at, symbol_at, same_symbol}
 use Rattle.radio.proofs.LowBits.{length_bits}

@@ -1,4 +1,4 @@
-use Rattle.std.proofs.Common.{◌≡◌, ◌+◌, ◌<◌, ◌≤◌, [], ◌∷◌, ◌++◌, length, get_or, take, set, sym, refl, ap, ◌∙◌, arith, rules}
+use Rattle.std.proofs.Common.{◌≡◌, ◌+◌, ◌<◌, ◌≤◌, [], ◌∷◌, ◌++◌, length, get_or, take, set, sym, ap, ◌∙◌, arith, rules}
 use borrow.Author.Tests.{le-true, clash}
 use Rattle.std.proofs.lemmas.List.{take_more, take_more_set, take_all, append_assoc, length-set}
 use Rattle.message.proofs.buffer.Buffer.append.Goals as goal

@@ -1,4 +1,4 @@
-use Rattle.std.proofs.Common.{◌≡◌, ℕ, ◌+◌, ◌%◌, ◌<◌, ◌≤◌, true, cond, leb, List, ◌++◌, length, get_or, sum, sym, ap, ◌∙◌, subst, arith, rules}
+use Rattle.std.proofs.Common.{◌≡◌, ℕ, ◌+◌, ◌%◌, ◌<◌, true, cond, leb, List, ◌++◌, length, get_or, sum, sym, ap, ◌∙◌, subst, arith, rules}
 use Rattle.std.proofs.ByRecursion.{All-take, All-from_get_or}
 use Rattle.message.specs.Message.{Admissible, message, lawful, head}
 use Rattle.message.specs.Parts.{items}

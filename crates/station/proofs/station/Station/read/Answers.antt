@@ -1,8 +1,6 @@
-use Rattle.std.proofs.Common.{◌≡◌, ℕ, ◌-◌, ◌≤◌, length, take, Ok, Err, Result, sym, refl, ap, ◌∙◌, subst, arith, rules}
+use Rattle.std.proofs.Common.{length, Ok, Err, sym, ap, ◌∙◌, subst, arith}
 use Rattle.std.proofs.lemmas.Result.{err_from_is_err_and}
-use Rattle.refusal.specs.declared.Refusal.{Refusal}
 use Rattle.radio.specs.Lines.{Heard, past}
-use Rattle.station.specs.declared.filters.Facts.{Facts}
 use Rattle.station.specs.Judging.{believed, told, buffer_left}
 use Rattle.station.specs.Receiving.{Stands}
 use Rattle.station.proofs.ReadSteps.{unit_is, unit_some, line_is, read_refused, read_withheld, read_accepted, buffer_is}

@@ -1,7 +1,7 @@
-use Rattle.std.proofs.Common.{true, get_or, take, codes, sym, refl, ◌∙◌}
+use Rattle.std.proofs.Common.{true, get_or, take, refl}
 use Rattle.std.proofs.Output.{has_written_append, has_written_of_eq}
-use Rattle.text.specs.Texts.{octet_text, pairs_text, octets_text}
-use Rattle.text.proofs.Printing.{pairs_more, pairs_all, put_none, none_text}
+use Rattle.text.specs.Texts.{octet_text, pairs_text}
+use Rattle.text.proofs.Printing.{pairs_more, put_none}
 use Rattle.text.proofs.shown.HexDisplay.fmt.Goals as goal
 
 pub loop-x-init : goal.loop-x-init

@@ -1,4 +1,4 @@
-use Rattle.std.proofs.Common.{◌≡◌, ◌<◌, length, sym, ap, ◌∙◌, arith, rules}
+use Rattle.std.proofs.Common.{sym, ap, ◌∙◌, arith, rules}
 use Rattle.text.specs.Words.{behind}
 use Rattle.text.proofs.Lines.{word_fits, cut_line, cut_nothing}
 use Rattle.text.proofs.words.Words.take.Goals as goal

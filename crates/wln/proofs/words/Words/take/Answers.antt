@@ -1,5 +1,4 @@
-use Rattle.std.proofs.Common.{◌≡◌, ℕ, ◌<◌, List, length, sym, ap, ◌∙◌, arith, rules}
-use Rattle.wln.specs.Words.{first_word, behind_word, before_blank, from_blank}
+use Rattle.std.proofs.Common.{sym, ◌∙◌, arith, rules}
 use Rattle.wln.proofs.Lines.{word_fits, taken_word, left_behind, empty_word}
 use Rattle.wln.proofs.words.Words.take.Goals as goal
 
