@@ -15,8 +15,8 @@ DECLARED = re.compile(r"^\s*(?:(?:pub|abbrev|unfoldable|data|record|module)\s+)*
 ALIAS = re.compile(r"\bas (" + WORD + r")")
 LOCAL = [re.compile(r"let (" + WORD + r") [:=]"), re.compile(r"\(([^:(){}]+) : ")]
 HAND = {"getD-low": "get_or_low"}
-# Words that clauses and specs may not use, since they are tactics.
-RESERVED = {"ground": "ground_unit"}
+# Words that clauses and specs may not use, since they are tactics, and a name that the toolchain's script left half turned.
+RESERVED = {"ground": "ground_unit", "Goes_on": "GoesOn"}
 
 
 def sources():
@@ -34,6 +34,18 @@ def spelled(name):
     if name[0].isupper():
         return "".join(p[:1].upper() + p[1:] for p in parts)
     return "_".join(parts)
+
+
+def plain_words(path, text):
+    """Names of one file that would stand for something else than the library's word of that name."""
+    if "AllByRecursion" in text:
+        return {"All": "AllByRecursion"}
+    table = {}
+    if re.search(r"use Rattle\.radio\.specs\.Layer\.\{[^}]*\bAll\b", text) or path.endswith("radio/specs/Layer.antt"):
+        table["All"] = "AllMay"
+    if path.startswith("crates/coding/"):
+        table["codes"] = "code_table"
+    return table
 
 
 def pieces(text, antt):
@@ -100,10 +112,12 @@ def main():
         return 0
     for p, t in texts.items():
         antt = p.endswith(".antt")
+        plain = plain_words(p, t)
         out = []
         for piece, is_code in pieces(t, antt):
             if is_code:
-                piece = token.sub(lambda m: table.get(m[0], m[0]), piece)
+                piece = piece.replace("AllByRecursion as All", "AllByRecursion")
+                piece = token.sub(lambda m: plain.get(m[0], table.get(m[0], m[0])), piece)
             else:
                 piece = re.sub(r"`(" + WORD + r")`", lambda m: "`" + table.get(m[1], m[1]) + "`", piece)
             out.append(piece)

@@ -4,7 +4,7 @@ use Rattle.std.proofs.Common.{sym, ap, subst, arith, lit≤, eq-eqb}
 use Rattle.radio.specs.declared.symbol.Symbol.{Symbol}
 use Rattle.radio.specs.declared.symbol.Symbol.TheVariants.{Clean, Spoiled}
 use Rattle.radio.specs.Reception.{mark, any_octet, AllAsWritten}
-use Rattle.radio.specs.Layer.{Octets, All}
+use Rattle.radio.specs.Layer.{Octets, AllMay}
 use Rattle.coding.specs.Grouping.{Grouping}
 use Rattle.coding.specs.Block.{sum_of, code_of, three, four_of, read_of, marks_of, rule_for}
 
@@ -107,7 +107,7 @@ block = record {
   few = lit≤ tt;
   code_length = three_of (λ g. length (code_of g) ≡ 4) (λ x y z. refl);
   read_length = read_long;
-  written = three_of (λ g. Octets g → Octets (code_of g) × All any_octet (code_of g)) (λ x y z o.
+  written = three_of (λ g. Octets g → Octets (code_of g) × AllMay any_octet (code_of g)) (λ x y z o.
       ((o.0, (o.1.0, (o.1.1.0, (sum_octet x y z, tt)))), (refl, (refl, (refl, (refl, tt))))));
   returns = three_of (λ g. Octets g → read_of (map Clean (code_of g)) ≡ map Clean g) (λ x y z o. clean_returns x y z);
   honest = λ g ss. three_of (λ h. Octets h → AllAsWritten any_octet ss (code_of h) → AllAsWritten any_octet (read_of ss) h) (λ x y z. honest_group x y z ss) g;

@@ -4,7 +4,7 @@ use Rattle.refusal.specs.declared.Cause.TheVariants.{Torn}
 use Rattle.radio.specs.declared.symbol.Symbol.{Symbol}
 use Rattle.radio.specs.declared.symbol.Symbol.TheVariants.{Clean}
 use Rattle.radio.specs.Reception.{Reception, Ending, whole, fault, made_at, raised, mark, any_octet, AllAsWritten}
-use Rattle.radio.specs.Layer.{Octets, All}
+use Rattle.radio.specs.Layer.{Octets, AllMay}
 use Rattle.coding.specs.Regroup.{regroup, left_over}
 
 -- what an author says of a coding, and shows of one group: `plain` octets above are `coded` octets below
@@ -22,7 +22,7 @@ pub record Grouping : Type 0 where
   pub few : coded ≤ 8
   pub code_length : (g : List ℕ) → length g ≡ plain → length (code g) ≡ coded
   pub read_length : (ss : List Symbol) → length ss ≡ coded → length (read ss) ≡ plain
-  pub written : (g : List ℕ) → length g ≡ plain → Octets g → Octets (code g) × All may (code g)
+  pub written : (g : List ℕ) → length g ≡ plain → Octets g → Octets (code g) × AllMay may (code g)
   -- with no symbol spoiled and all as written, the octets come back as written
   pub returns : (g : List ℕ) → length g ≡ plain → Octets g → read (map Clean (code g)) ≡ map Clean g
   -- honest below gives honest above, and the marks above follow from the marks below alone

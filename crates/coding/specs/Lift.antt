@@ -6,7 +6,7 @@ use Rattle.std.proofs.lemmas.List.{map-append, length-append, length-map, length
 use Rattle.radio.specs.declared.symbol.Symbol.{Symbol}
 use Rattle.radio.specs.declared.symbol.Symbol.TheVariants.{Clean}
 use Rattle.radio.specs.Reception.{whole, mark, any_octet, AllAsWritten, clean}
-use Rattle.radio.specs.Layer.{Layer, Laws, Fit, Octets, All}
+use Rattle.radio.specs.Layer.{Layer, Laws, Fit, Octets, AllMay}
 use Rattle.coding.specs.Regroup.{regroup, left_over, flat, Each, regroup_full, left_over_full}
 use Rattle.coding.specs.Grouping.{Grouping, decoded, ending_above, encoded, ruled, groups_in, counted}
 
@@ -41,7 +41,7 @@ octets_append : (xs ys : List ℕ) → Octets xs → Octets ys → Octets (xs ++
 octets_append [] ys o p = p
 octets_append (x ∷ xs) ys o p = (o.0, octets_append xs ys o.1 p)
 
-all_append : (may : ℕ → Bool) (xs ys : List ℕ) → All may xs → All may ys → All may (xs ++ ys)
+all_append : (may : ℕ → Bool) (xs ys : List ℕ) → AllMay may xs → AllMay may ys → AllMay may (xs ++ ys)
 all_append may [] ys o p = p
 all_append may (x ∷ xs) ys o p = (o.0, all_append may xs ys o.1 p)
 
@@ -97,12 +97,12 @@ module _ (c : Grouping) where
       let k : length (c.code g) ≡ c.coded = c.code_length g e.0 in
       ap length (encoded_more g (flat gs) e.0) ∙ length-append (c.code g) (encoded c (flat gs)) ∙ omega arith
 
-  written_all : (gs : List (List ℕ)) → Each c.plain gs → Octets (flat gs) → Octets (encoded c (flat gs)) × All c.may (encoded c (flat gs))
+  written_all : (gs : List (List ℕ)) → Each c.plain gs → Octets (flat gs) → Octets (encoded c (flat gs)) × AllMay c.may (encoded c (flat gs))
   written_all [] e o = (tt, tt)
   written_all (g ∷ gs) e o =
       let a = written_all gs e.1 (octets_right g (flat gs) o) in
       let b = c.written g e.0 (octets_left g (flat gs) o) in
-      subst (λ (z : List ℕ). Octets z × All c.may z) (sym (encoded_more g (flat gs) e.0))
+      subst (λ (z : List ℕ). Octets z × AllMay c.may z) (sym (encoded_more g (flat gs) e.0))
       (octets_append (c.code g) (encoded c (flat gs)) b.0 a.0, all_append c.may (c.code g) (encoded c (flat gs)) b.1 a.1)
 
   returns_all : (gs : List (List ℕ)) → Each c.plain gs → Octets (flat gs) →
@@ -180,7 +180,7 @@ module _ (c : Grouping) where
     );
     no_less = enough;
     written = λ u xs l f. let q = fit_groups u xs f in
-        subst (λ (z : List ℕ). Octets (encoded c z) × All c.may (encoded c z)) (sym q.is) (written_all q.gs q.each (subst Octets q.is f.octets));
+        subst (λ (z : List ℕ). Octets (encoded c z) × AllMay c.may (encoded c z)) (sym q.is) (written_all q.gs q.each (subst Octets q.is f.octets));
     returns = λ u xs l f. let q = fit_groups u xs f in
         subst (λ (z : List ℕ). decoded c (clean (encoded c z)) ≡ clean z) (sym q.is)
         (let a = returns_all q.gs q.each (subst Octets q.is f.octets) in

@@ -4,8 +4,8 @@ use Rattle.radio.specs.declared.symbol.Symbol.{Symbol}
 use Rattle.radio.specs.declared.symbol.Symbol.TheVariants.{Clean, Spoiled}
 
 -- the code octets of the four-bit values 0 to 15
-abbrev pub codes : List ℕ
-codes = 0x55 ∷ 0x56 ∷ 0x59 ∷ 0x5A ∷ 0x65 ∷ 0x66 ∷ 0x69 ∷ 0x6A ∷ 0x95 ∷ 0x96 ∷ 0x99 ∷ 0x9A ∷ 0xA5 ∷ 0xA6 ∷ 0xA9 ∷ 0xAA ∷ []
+abbrev pub code_table : List ℕ
+code_table = 0x55 ∷ 0x56 ∷ 0x59 ∷ 0x5A ∷ 0x65 ∷ 0x66 ∷ 0x69 ∷ 0x6A ∷ 0x95 ∷ 0x96 ∷ 0x99 ∷ 0x9A ∷ 0xA5 ∷ 0xA6 ∷ 0xA9 ∷ 0xAA ∷ []
 
 -- the place of c in a list whose first place is i
 abbrev pub place_in : ℕ → ℕ → List ℕ → Option ℕ
@@ -14,7 +14,7 @@ place_in c i (x ∷ xs) = cond (x == c) (Some i) (place_in c (i + 1) xs)
 
 -- the value that an octet stands for, if it is a code octet
 abbrev pub value_of : ℕ → Option ℕ
-value_of c = place_in c 0 codes
+value_of c = place_in c 0 code_table
 
 abbrev pub nibble_of : Symbol → Option ℕ
 nibble_of (Clean c) = value_of c
@@ -32,7 +32,7 @@ pair_of s t = both (nibble_of s) (nibble_of t)
 -- an octet becomes two, the upper four bits first
 abbrev pub code_of : List ℕ → List ℕ
 code_of [] = []
-code_of (x ∷ xs) = slice_index codes (x / 16) ∷ slice_index codes (x % 16) ∷ []
+code_of (x ∷ xs) = slice_index code_table (x / 16) ∷ slice_index code_table (x % 16) ∷ []
 
 abbrev pub read_of : List Symbol → List Symbol
 read_of [] = []

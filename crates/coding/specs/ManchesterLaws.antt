@@ -6,9 +6,9 @@ use Rattle.std.proofs.lemmas.Bool.{eqb-false}
 use Rattle.radio.specs.declared.symbol.Symbol.{Symbol}
 use Rattle.radio.specs.declared.symbol.Symbol.TheVariants.{Clean, Spoiled}
 use Rattle.radio.specs.Reception.{mark, any_octet, AsWritten, AllAsWritten}
-use Rattle.radio.specs.Layer.{Octets, All}
+use Rattle.radio.specs.Layer.{Octets, AllMay}
 use Rattle.coding.specs.Grouping.{Grouping}
-use Rattle.coding.specs.Manchester.{codes, value_of, nibble_of, both, pair_of, code_of, read_of, is_code, rule_for}
+use Rattle.coding.specs.Manchester.{code_table, value_of, nibble_of, both, pair_of, code_of, read_of, is_code, rule_for}
 
 -- a test at each number below n
 every : ℕ → (ℕ → Bool) → Bool
@@ -46,19 +46,19 @@ is_at_some (Some v) k e = ap Some (eqb-true v k e)
 
 -- the table's rule: each entry is an octet, and stands for its place
 sound : ℕ → Bool
-sound k = nat_lt (slice_index codes k) 256 && is_at (value_of (slice_index codes k)) k
+sound k = nat_lt (slice_index code_table k) 256 && is_at (value_of (slice_index code_table k)) k
 
 all_sound : every 16 sound ≡ true
 unfolding every sound is_at
 all_sound = refl
 
-pub code_octet : (k : ℕ) → k < 16 → slice_index codes k < 256
+pub code_octet : (k : ℕ) → k < 16 → slice_index code_table k < 256
 unfolding sound
-code_octet k l = ltb-true (slice_index codes k) 256 (and_left (nat_lt (slice_index codes k) 256) _ (every_at 16 sound all_sound k l))
+code_octet k l = ltb-true (slice_index code_table k) 256 (and_left (nat_lt (slice_index code_table k) 256) _ (every_at 16 sound all_sound k l))
 
-pub code_value : (k : ℕ) → k < 16 → value_of (slice_index codes k) ≡ Some k
+pub code_value : (k : ℕ) → k < 16 → value_of (slice_index code_table k) ≡ Some k
 unfolding sound
-code_value k l = is_at_some (value_of (slice_index codes k)) k (and_right (nat_lt (slice_index codes k) 256) _ (every_at 16 sound all_sound k l))
+code_value k l = is_at_some (value_of (slice_index code_table k)) k (and_right (nat_lt (slice_index code_table k) 256) _ (every_at 16 sound all_sound k l))
 
 pub upper : (x : ℕ) → x < 256 → x / 16 < 16
 upper x l = omega arith
@@ -74,9 +74,9 @@ one_of P f [] e = absurd (omega arith)
 one_of P f (x ∷ []) e = f x
 one_of P f (x ∷ y ∷ g) e = absurd (omega arith)
 
-pub both_some : (x : ℕ) → x < 256 → both (value_of (slice_index codes (x / 16))) (value_of (slice_index codes (x % 16))) ≡ Clean x
+pub both_some : (x : ℕ) → x < 256 → both (value_of (slice_index code_table (x / 16))) (value_of (slice_index code_table (x % 16))) ≡ Clean x
 both_some x l =
-    ap (λ o. both o (value_of (slice_index codes (x % 16)))) (code_value (x / 16) (upper x l))
+    ap (λ o. both o (value_of (slice_index code_table (x % 16)))) (code_value (x / 16) (upper x l))
     ∙ ap (λ o. both (Some (x / 16)) o) (code_value (x % 16) (lower x))
     ∙ ap Clean (again x)
 
@@ -93,14 +93,14 @@ both_none : (o : Option ℕ) → both o None ≡ Spoiled
 both_none None = refl
 both_none (Some a) = refl
 
-honest_by : (o p : Option ℕ) (x : ℕ) → x < 256 → (o ≡ None) ⊎ (o ≡ value_of (slice_index codes (x / 16))) → (p ≡ None) ⊎ (p ≡ value_of (slice_index codes (x % 16))) → AsWritten any_octet (both o p) x
+honest_by : (o p : Option ℕ) (x : ℕ) → x < 256 → (o ≡ None) ⊎ (o ≡ value_of (slice_index code_table (x / 16))) → (p ≡ None) ⊎ (p ≡ value_of (slice_index code_table (x % 16))) → AsWritten any_octet (both o p) x
 honest_by o p x l (inl e) b = subst (λ (z : Option ℕ). AsWritten any_octet (both z p) x) (sym e) tt
 honest_by o p x l (inr e) (inl f) = subst (λ (z : Symbol). AsWritten any_octet z x) (sym (ap (both o) f ∙ both_none o)) tt
 honest_by o p x l (inr e) (inr f) =
-    subst (λ (z : Symbol). AsWritten any_octet z x) (sym (ap (λ z. both z p) e ∙ ap (both (value_of (slice_index codes (x / 16)))) f ∙ both_some x l)) (λ _. refl)
+    subst (λ (z : Symbol). AsWritten any_octet z x) (sym (ap (λ z. both z p) e ∙ ap (both (value_of (slice_index code_table (x / 16)))) f ∙ both_some x l)) (λ _. refl)
 
-honest_pair : (s t : Symbol) (x : ℕ) → x < 256 → AsWritten is_code s (slice_index codes (x / 16)) → AsWritten is_code t (slice_index codes (x % 16)) → AsWritten any_octet (pair_of s t) x
-honest_pair s t x l a b = honest_by (nibble_of s) (nibble_of t) x l (valued s (slice_index codes (x / 16)) a) (valued t (slice_index codes (x % 16)) b)
+honest_pair : (s t : Symbol) (x : ℕ) → x < 256 → AsWritten is_code s (slice_index code_table (x / 16)) → AsWritten is_code t (slice_index code_table (x % 16)) → AsWritten any_octet (pair_of s t) x
+honest_pair s t x l a b = honest_by (nibble_of s) (nibble_of t) x l (valued s (slice_index code_table (x / 16)) a) (valued t (slice_index code_table (x % 16)) b)
 
 mark_both : (o p : Option ℕ) → mark any_octet (both o p) ≡ (not (is_some o) || not (is_some p))
 mark_both None p = refl
@@ -143,7 +143,7 @@ manchester = record {
   few = lit≤ tt;
   code_length = one_of (λ g. length (code_of g) ≡ 2) (λ x. refl);
   read_length = read_long;
-  written = one_of (λ g. Octets g → Octets (code_of g) × All is_code (code_of g)) (λ x o. (
+  written = one_of (λ g. Octets g → Octets (code_of g) × AllMay is_code (code_of g)) (λ x o. (
     (code_octet (x / 16) (upper x o.0), (code_octet (x % 16) (lower x), tt)),
     (ap is_some (code_value (x / 16) (upper x o.0)), (ap is_some (code_value (x % 16) (lower x)), tt)),
   ));

@@ -6,7 +6,7 @@ use Rattle.radio.specs.Layer.{Laws}
 use Rattle.coding.specs.Regroup.{Cut}
 use Rattle.coding.specs.Grouping.{Grouping, encoded, decoded, ruled, counted, ending_above}
 use Rattle.coding.specs.Lift.{layer_of}
-use Rattle.coding.specs.Manchester.{codes, value_of}
+use Rattle.coding.specs.Manchester.{code_table, value_of}
 use Rattle.coding.specs.ManchesterLaws.{manchester}
 use Rattle.coding.specs.BlockLaws.{block}
 
@@ -33,8 +33,8 @@ KeepsLaws = (c : Grouping) → Laws (λ u. c.plain * u) (counted c) (encoded c) 
 
 -- the table and its inverse: each code octet stands for its place, and what stands for a value is that value's code octet
 pub record Inverse : Type 0 where
-  pub back : (k : ℕ) → k < 16 → value_of (slice_index codes k) ≡ Some k
-  pub forth : (c k : ℕ) → value_of c ≡ Some k → (k < 16) × (slice_index codes k ≡ c)
+  pub back : (k : ℕ) → k < 16 → value_of (slice_index code_table k) ≡ Some k
+  pub forth : (c k : ℕ) → value_of c ≡ Some k → (k < 16) × (slice_index code_table k ≡ c)
 
 -- Manchester has the unit below, and n octets are 2n below; Block has three times the unit below, and 3n octets are 4n below
 pub record Sizes : Type 0 where

@@ -1,5 +1,5 @@
 ghost use Rattle.std.specs.Prelude.{◌≡◌, ◌<◌, IfSome, slice_index};
-ghost use Rattle.coding.specs.Manchester.{codes, nibble_of, pair_of};
+ghost use Rattle.coding.specs.Manchester.{code_table, nibble_of, pair_of};
 ghost use Rattle.coding.specs.ManchesterLaws.{manchester};
 
 use crate::Coding;
@@ -14,7 +14,7 @@ const CODES: [u8; 16] = [
 /// The code octet of a four-bit value.
 fn code(value: u8) -> u8
     requires { value < 16 }
-    ensures { result ≡ slice_index codes value }
+    ensures { result ≡ slice_index code_table value }
 {
     CODES[value as usize]
 }

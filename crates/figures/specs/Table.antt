@@ -1,6 +1,6 @@
 -- The worked figures in one table, octets in hexadecimal. Assumes nothing.
 use Rattle.std.specs.Prelude.{◌≡◌, ℕ, List, [], ◌∷◌, Ok, Err}
-use Rattle.std.specs.List.{AllByRecursion as All}
+use Rattle.std.specs.List.{AllByRecursion}
 use Rattle.refusal.specs.declared.Refusal.{Refusal}
 use Rattle.refusal.specs.declared.Refusal.TheVariants.{Sum as SUM, Spoiled as SPOILED}
 use Rattle.message.specs.Message.{Lawful}
@@ -72,4 +72,4 @@ table =
 
 -- every row of the table holds
 abbrev pub TableHolds : Type 0
-TableHolds = All Holds table
+TableHolds = AllByRecursion Holds table

@@ -3,7 +3,7 @@ use Rattle.std.proofs.Common.{◌≡◌, ℕ, ◌+◌, ◌-◌, ◌<◌, ◌≤�
 use Rattle.std.proofs.lemmas.List.{length-append, length-take-le, length-drop, length-replicate, take_at, drop_at, drop-drop, set_split, replicate_more, take-append-drop}
 use Rattle.radio.specs.declared.turn.Turn.{Turn}
 use Rattle.radio.specs.declared.turn.Turn.TheVariants.{Idle, Owing}
-use Rattle.radio.specs.Outlets.{Goes_on, Begun, Ended, Put, laid_over, start, stop, less}
+use Rattle.radio.specs.Outlets.{GoesOn, Begun, Ended, Put, laid_over, start, stop, less}
 use Rattle.outlets.specs.Bottoms.{bottom, written_at, one_cell, joined_one}
 
 module _ (memory : List ℕ) (n : ℕ) (xs : List ℕ) (k : ℕ) (at : k ≡ n + length xs) (fits : k ≤ length memory) where
@@ -67,7 +67,7 @@ pub record Lays (cells : ℕ → List ℕ) (channel memory xs channel' memory' :
   pub memory_is : memory' ≡ laid_over cells (channel ++ xs) memory
 
 module _ (cells : ℕ → List ℕ) (ch m xs ch' m' : List ℕ) (l : Lays cells ch m xs ch' m') (t : Turn) (r : ℕ) where
-  bottom_goes : (t' : Turn) (r' : ℕ) → Goes_on (bottom cells ch m t r) (bottom cells ch' m' t' r')
+  bottom_goes : (t' : Turn) (r' : ℕ) → GoesOn (bottom cells ch m t r) (bottom cells ch' m' t' r')
   bottom_goes t' r' = record {
     pile = refl;
     ground_unit = refl;

@@ -3,7 +3,7 @@ use Rattle.std.proofs.Common.{◌≡◌, ℕ, ◌≤◌, Bool, true, false, not,
 use Rattle.radio.specs.declared.symbol.Symbol.{Symbol}
 use Rattle.radio.specs.declared.symbol.Symbol.TheVariants.{Clean, Spoiled}
 use Rattle.radio.specs.Reception.{Reception, Honest, mark, marks, any_octet, clean, AllAsWritten}
-use Rattle.radio.specs.Layer.{Layer, Pile, Fit, Multiple, Octets, All, unit_of, cost_of, sent_through, read_through, rule_of, may_of}
+use Rattle.radio.specs.Layer.{Layer, Pile, Fit, Multiple, Octets, AllMay, unit_of, cost_of, sent_through, read_through, rule_of, may_of}
 use Rattle.radio.specs.Piles.{KeepsTheLaws}
 
 -- what is honest with every octet allowed is honest under a layer that may write fewer
@@ -18,14 +18,14 @@ narrower may (Spoiled ∷ ss) (w ∷ ws) h = (tt, narrower may ss ws h.1)
 same_mark : (may : ℕ → Bool) (v w : ℕ) → may w ≡ true → v ≡ w → mark may (Clean v) ≡ false
 same_mark may v w m e = ap not (ap may e ∙ m)
 
-same_marks : (may : ℕ → Bool) (ss : List Symbol) (ws : List ℕ) → All may ws → AllAsWritten any_octet ss ws → map (mark may) ss ≡ map (mark any_octet) ss
+same_marks : (may : ℕ → Bool) (ss : List Symbol) (ws : List ℕ) → AllMay may ws → AllAsWritten any_octet ss ws → map (mark may) ss ≡ map (mark any_octet) ss
 same_marks may [] [] a h = refl
 same_marks may [] (w ∷ ws) a h = absurd h
 same_marks may (s ∷ ss) [] a h = absurd h
 same_marks may (Clean v ∷ ss) (w ∷ ws) a h = let e = same_mark may v w a.0 (h.0 refl) in let t = same_marks may ss ws a.1 h.1 in cc
 same_marks may (Spoiled ∷ ss) (w ∷ ws) a h = ap (λ l. true ∷ l) (same_marks may ss ws a.1 h.1)
 
-any_all : (xs : List ℕ) → All any_octet xs
+any_all : (xs : List ℕ) → AllMay any_octet xs
 any_all [] = tt
 any_all (x ∷ xs) = (refl, any_all xs)
 
@@ -61,7 +61,7 @@ module _ (l k : Layer) (ls : Pile) (below : KeepsTheLaws (k ∷ ls)) (u : ℕ) (
   count : (length (l.encode xs) ≡ l.count (length xs)) × Multiple (unit_of (k ∷ ls) u) (l.count (length xs))
   count = l.laws.fixed (unit_of (k ∷ ls) u) xs (below.positive u p) fit
 
-  wrote : Octets (l.encode xs) × All l.may (l.encode xs)
+  wrote : Octets (l.encode xs) × AllMay l.may (l.encode xs)
   wrote = l.laws.written (unit_of (k ∷ ls) u) xs (below.positive u p) fit
 
   fit_below : Fit (unit_of (k ∷ ls)) u (l.encode xs)

@@ -9,7 +9,7 @@ use Rattle.refusal.specs.declared.Refusal.TheVariants.{Argument, Turn as OutOfTu
 use Rattle.radio.specs.declared.turn.Turn.{Turn}
 use Rattle.radio.specs.declared.turn.Turn.TheVariants.{Idle, Owing, Stuck}
 use Rattle.radio.specs.Layer.{Pile, unit_of, sent_through}
-use Rattle.radio.specs.Outlets.{State, Sound, Goes_on, Begun, Put, Ended, Written, Stored, Puts, CallsWrite, message, unit, laid_over, answer, Leaves, unless, idle, a_preamble, even, out_of_form, begin_refusal, put_refusal, end_refusal, needed, start, stop, less}
+use Rattle.radio.specs.Outlets.{State, Sound, GoesOn, Begun, Put, Ended, Written, Stored, Puts, CallsWrite, message, unit, laid_over, answer, Leaves, unless, idle, a_preamble, even, out_of_form, begin_refusal, put_refusal, end_refusal, needed, start, stop, less}
 
 pub unit_positive : (ls : Pile) (u : ℕ) → 1 ≤ u → 1 ≤ unit_of ls u
 unit_positive [] u h = h
@@ -72,10 +72,10 @@ laid_further cells channel more memory =
     ∙ ap (λ k. drop k memory) (sym n)
     )
 
-pub goes_nowhere : (s : State) → Sound s → Goes_on s s
+pub goes_nowhere : (s : State) → Sound s → GoesOn s s
 goes_nowhere s h = record { pile = refl; ground_unit = refl; cells = refl; grows = ([], sym (append-nil s.channel)); memory = h.laid }
 
-pub goes_further : (s t u : State) → Goes_on s t → Goes_on t u → Goes_on s u
+pub goes_further : (s t u : State) → GoesOn s t → GoesOn t u → GoesOn s u
 goes_further s t u g h = record {
   pile = h.pile ∙ g.pile;
   ground_unit = h.ground_unit ∙ g.ground_unit;

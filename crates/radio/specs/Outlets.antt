@@ -38,7 +38,7 @@ pub record Sound (s : State) : Type 0 where
   pub laid : s.memory ≡ laid_over s.cells s.channel s.memory
 
 -- what every call keeps: the channel only grows, and the memory is the old one with the channel at its start
-pub record Goes_on (s t : State) : Type 0 where
+pub record GoesOn (s t : State) : Type 0 where
   pub pile : t.pile ≡ s.pile
   pub ground_unit : t.ground_unit ≡ s.ground_unit
   pub cells : t.cells ≡ s.cells
@@ -109,7 +109,7 @@ pub record Begun (p k : ℕ) (s t : State) : Type 0 where
   pub space : t.space ≡ s.space - needed p k s
   pub channel : t.channel ≡ s.channel ++ start p
   pub once_put : (xs : List ℕ) → t.once_put xs ≡ t.channel ++ sent_through s.pile xs
-  pub goes_on : Goes_on s t
+  pub goes_on : GoesOn s t
 
 abbrev pub less : Turn → ℕ → Turn
 less Idle k = Idle
@@ -121,14 +121,14 @@ pub record Put (xs : List ℕ) (s t : State) : Type 0 where
   pub turn : t.turn ≡ less s.turn (length xs)
   pub space : t.space ≡ s.space
   pub once_put : (ys : List ℕ) → t.once_put ys ≡ s.once_put (xs ++ ys)
-  pub goes_on : Goes_on s t
+  pub goes_on : GoesOn s t
 
 -- the message ended
 pub record Ended (s t : State) : Type 0 where
   pub turn : t.turn ≡ Idle
   pub space : t.space ≡ s.space
   pub channel : t.channel ≡ s.channel ++ stop
-  pub goes_on : Goes_on s t
+  pub goes_on : GoesOn s t
 
 -- the channel octets of one whole message: its start, what the pile makes of its octets, and its end
 abbrev pub message : Pile → ℕ → List ℕ → List ℕ
@@ -139,7 +139,7 @@ pub record Written (p : ℕ) (xs : List ℕ) (s t : State) : Type 0 where
   pub turn : t.turn ≡ Idle
   pub space : t.space ≡ s.space - needed p (length xs) s
   pub channel : t.channel ≡ s.channel ++ message s.pile p xs
-  pub goes_on : Goes_on s t
+  pub goes_on : GoesOn s t
 
 -- these octets put one by one
 abbrev pub Puts : List ℕ → State → State → Type 0

@@ -9,7 +9,7 @@ use Rattle.radio.specs.declared.turn.Turn.{Turn}
 use Rattle.radio.specs.declared.turn.Turn.TheVariants.{Idle, Owing, Stuck}
 use Rattle.radio.specs.Layer.{Pile, cost_of}
 use Rattle.radio.specs.Lines.{tail}
-use Rattle.radio.specs.Outlets.{State, Sound, Goes_on, Begun, Put, Ended, unit, answer, unless, idle, a_preamble, even, out_of_form, begin_refusal, put_refusal, needed, less}
+use Rattle.radio.specs.Outlets.{State, Sound, GoesOn, Begun, Put, Ended, unit, answer, unless, idle, a_preamble, even, out_of_form, begin_refusal, put_refusal, needed, less}
 use Rattle.radio.proofs.States.{form_ok, no_space, put_accepted, goes_nowhere}
 use Rattle.radio.specs.declared.outlet.Outlet.{Ghosts as OutletOf}
 use Rattle.coding.specs.declared.Coding.{Ghosts as CodingOf}
@@ -29,7 +29,7 @@ times_suc : (j q : ℕ) → suc j * q ≡ j * q + q
 times_suc j q = ap (λ i. i * q) (sym (add-one j)) ∙ add-mul j 1 q ∙ ap (λ r. j * q + r) (one-mul q)
 
 -- what stays below stays above
-pub half_goes : (c : Grouping) (h h' : List ℕ) (b b' : State) → Goes_on b b' → Goes_on (over_outlet c h b) (over_outlet c h' b')
+pub half_goes : (c : Grouping) (h h' : List ℕ) (b b' : State) → GoesOn b b' → GoesOn (over_outlet c h b) (over_outlet c h' b')
 half_goes c h h' b b' r = record { pile = ap (λ ls. layer_of c ∷ ls) r.pile; ground_unit = r.ground_unit; cells = r.cells; grows = r.grows; memory = r.memory }
 
 module _ (c : Grouping) where

@@ -4,7 +4,7 @@ use mathlib.Core.Bool.{false≢true}
 use Rattle.refusal.specs.declared.Cause.TheVariants.{Cut}
 use Rattle.radio.specs.declared.symbol.Symbol.TheVariants.{Clean}
 use Rattle.radio.specs.Reception.{whole, made_at, ending_in, before, clean}
-use Rattle.radio.specs.Layer.{Fit, Octets, All, read_through, sent_through}
+use Rattle.radio.specs.Layer.{Fit, Octets, AllMay, read_through, sent_through}
 use Rattle.lines.specs.HeardOctets.{sign_here, reception_from, receptions}
 use Rattle.radio.specs.Outlets.{laid_over, message, start, stop}
 use Rattle.outlets.specs.Bottoms.{one_cell, joined_one}
@@ -35,7 +35,7 @@ not_code : (y n : ℕ) → is_code y ≡ true → is_code n ≡ false → eqb y 
 not_code y n c d = ne_eqb y n (λ e. false≢true (sym d ∙ ap is_code (sym e) ∙ c))
 
 -- code octets up to a 33
-heard_whole : (n : ℕ) (ys rest : List ℕ) → All is_code ys → reception_from n (ys ++ (51 ∷ rest)) ≡ clean ys
+heard_whole : (n : ℕ) (ys rest : List ℕ) → AllMay is_code ys → reception_from n (ys ++ (51 ∷ rest)) ≡ clean ys
 heard_whole n [] rest a = ap (λ b. cond b (ending_in (made_at Cut n)) (ending_in whole)) (no_sign 51 rest refl)
 heard_whole n (y ∷ ys) rest a =
     let r = reception_from (n + 1) (ys ++ (51 ∷ rest)) in
@@ -53,7 +53,7 @@ module _ (m : ℕ) (xs : List ℕ) (octets : Octets xs) (even : length xs ≡ 3 
   manchester_fit : Fit (layer_of manchester).unit 1 B
   manchester_fit = record { octets = ((layer_of block).laws.written 1 xs (lit≤ tt) block_fit).0; even = (length B, sym (one-mul (length B))) }
 
-  codes_only : All is_code (sent_through standard xs)
+  codes_only : AllMay is_code (sent_through standard xs)
   codes_only = ((layer_of manchester).laws.written 1 B (lit≤ tt) manchester_fit).1
 
   come_back : read_through standard (clean (sent_through standard xs)) ≡ clean xs

@@ -1,5 +1,5 @@
 use Rattle.std.proofs.Common.{◌≡◌, ℕ, suc, ◌+◌, ◌-◌, ◌<◌, ◌≤◌, Bool, true, false, cond, eqb, List, [], ◌∷◌, length, get_or, Some, sym, refl, ap, ◌∙◌, arith, eqb-true}
-use Rattle.coding.specs.Manchester.{codes, place_in}
+use Rattle.coding.specs.Manchester.{code_table, place_in}
 use Rattle.coding.specs.ManchesterLaws.{code_value}
 use Rattle.coding.proofs.laws.table_holds.Goals as goal
 
@@ -25,5 +25,5 @@ module _ (c k : ℕ) where
 pub returns : goal.returns
 returns c = record {
   back = code_value;
-  forth = λ o k e. let r = found o k 0 codes e in let z : k - 0 ≡ k = omega arith in (omega (arith, r.1), ap (λ n. get_or codes n 0) (sym z) ∙ r.2);
+  forth = λ o k e. let r = found o k 0 code_table e in let z : k - 0 ≡ k = omega arith in (omega (arith, r.1), ap (λ n. get_or code_table n 0) (sym z) ∙ r.2);
 }
