@@ -33,8 +33,16 @@ impl<'a> BitLine<'a> {
     pub fn new(bytes: &'a [u8]) -> BitLine<'a>
         ensures { bits_heard result.begun result.quiet result.given result.place result.bytes.now ≡ at_bottom unopened (receptions (take 65536 bytes.now)) }
     {
+        BitLine::before_all(heard_part(bytes))
+    }
+
+    /// A line over these bytes, before the first of them.
+    fn before_all(bytes: &'a [u8]) -> BitLine<'a>
+        requires { length bytes.now ≤ 65536 }
+        ensures { bits_heard result.begun result.quiet result.given result.place result.bytes.now ≡ at_bottom unopened (receptions bytes.now) }
+    {
         BitLine {
-            bytes: heard_part(bytes),
+            bytes,
             place: 0,
             given: 0,
             begun: false,

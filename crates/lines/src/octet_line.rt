@@ -36,8 +36,15 @@ impl<'a> OctetLine<'a> {
     pub fn new(bytes: &'a [u8]) -> OctetLine<'a>
         ensures { octets_heard result.begun result.quiet result.given result.place result.bytes.now ≡ at_bottom unopened (receptions (take 65536 bytes.now)) }
     {
+        OctetLine::before_all(heard_part(bytes))
+    }
+
+    /// A line over these bytes, before the first of them.
+    fn before_all(bytes: &'a [u8]) -> OctetLine<'a>
+        ensures { octets_heard result.begun result.quiet result.given result.place result.bytes.now ≡ at_bottom unopened (receptions bytes.now) }
+    {
         OctetLine {
-            bytes: heard_part(bytes),
+            bytes,
             place: 0,
             given: 0,
             begun: false,
