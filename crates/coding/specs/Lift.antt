@@ -1,8 +1,9 @@
 -- The layer of a grouping: its three laws follow from what its author shows of one group. Assumes nothing.
-use Rattle.std.specs.Prelude.{◌≡◌, ℕ, zero, suc, ◌+◌, ◌-◌, ◌*◌, ◌≤◌, Bool, List, [], ◌∷◌, ◌++◌, map, length, take, drop, refl}
+use Rattle.std.specs.Prelude.{◌≡◌, ℕ, zero, suc, ◌+◌, ◌-◌, ◌*◌, ◌<◌, ◌≤◌, Bool, true, List, [], ◌∷◌, ◌++◌, map, length, take, drop, refl}
 use Rattle.std.proofs.Common.{sym, ap, subst, ◌∙◌, mul_assoc, mul-zero, mul-suc, mul-le-mul, mul-le-mul_right, mod-lt, mul_left_comm, arith}
 use Rattle.std.proofs.Math.Nat.{mul-add-div, div-add-mod, div-eq_of_lt}
 use Rattle.std.proofs.lemmas.List.{map-append, length-append, length-map, length-take-le, length-drop, take-append-drop, nil_from_length}
+use Rattle.std.specs.List.{AllByRecursion}
 use Rattle.radio.specs.declared.symbol.Symbol.{Symbol}
 use Rattle.radio.specs.declared.symbol.Symbol.TheVariants.{Clean}
 use Rattle.radio.specs.Reception.{whole, mark, any_octet, AllAsWritten, clean}
@@ -37,13 +38,9 @@ octets_right : (xs ys : List ℕ) → Octets (xs ++ ys) → Octets ys
 octets_right [] ys o = o
 octets_right (x ∷ xs) ys o = octets_right xs ys o.1
 
-octets_append : (xs ys : List ℕ) → Octets xs → Octets ys → Octets (xs ++ ys)
-octets_append [] ys o p = p
-octets_append (x ∷ xs) ys o p = (o.0, octets_append xs ys o.1 p)
-
-all_append : (may : ℕ → Bool) (xs ys : List ℕ) → AllMay may xs → AllMay may ys → AllMay may (xs ++ ys)
-all_append may [] ys o p = p
-all_append may (x ∷ xs) ys o p = (o.0, all_append may xs ys o.1 p)
+all_append : (P : ℕ → Type 0) (xs ys : List ℕ) → AllByRecursion P xs → AllByRecursion P ys → AllByRecursion P (xs ++ ys)
+all_append P [] ys o p = p
+all_append P (x ∷ xs) ys o p = (o.0, all_append P xs ys o.1 p)
 
 module _ (may : ℕ → Bool) where
   written_length : (ss : List Symbol) (ws : List ℕ) → AllAsWritten may ss ws → length ss ≡ length ws
@@ -73,7 +70,7 @@ module _ (may : ℕ → Bool) where
       record { front = s ∷ r.front; back = r.back; is = ap (λ z. s ∷ z) r.is; before = (a.0, r.before); behind = r.behind }
 
 module _ (c : Grouping) where
-  some_coded : 1 ≤ c.coded
+  pub some_coded : 1 ≤ c.coded
   some_coded = omega (arith, c.some, c.no_less)
 
   encoded_more : (g xs : List ℕ) → length g ≡ c.plain → encoded c (g ++ xs) ≡ c.code g ++ encoded c xs
@@ -103,7 +100,7 @@ module _ (c : Grouping) where
       let a = written_all gs e.1 (octets_right g (flat gs) o) in
       let b = c.written g e.0 (octets_left g (flat gs) o) in
       subst (λ (z : List ℕ). Octets z × AllMay c.may z) (sym (encoded_more g (flat gs) e.0))
-      (octets_append (c.code g) (encoded c (flat gs)) b.0 a.0, all_append c.may (c.code g) (encoded c (flat gs)) b.1 a.1)
+      (all_append (λ x. x < 256) (c.code g) (encoded c (flat gs)) b.0 a.0, all_append (λ x. c.may x ≡ true) (c.code g) (encoded c (flat gs)) b.1 a.1)
 
   returns_all : (gs : List (List ℕ)) → Each c.plain gs → Octets (flat gs) →
       (regroup c.coded c.read [] (map Clean (encoded c (flat gs))) ≡ map Clean (flat gs)) × (left_over c.coded [] (map Clean (encoded c (flat gs))) ≡ [])
@@ -148,7 +145,7 @@ module _ (c : Grouping) where
       subst (λ (z : List Symbol). Fair z (g ++ flat gs)) (sym s.is)
       (fair_more g (flat gs) s.front s.back e.0 (octets_left g (flat gs) o) s.before (fair_all gs s.back e.1 (octets_right g (flat gs) o) s.behind))
 
-  groups_of : (m : ℕ) → groups_in c (c.plain * m) ≡ m
+  pub groups_of : (m : ℕ) → groups_in c (c.plain * m) ≡ m
   groups_of m =
       mul-add-div c.some m (c.plain - 1) ∙ ap (λ z. m + z) (div-eq_of_lt (omega (arith, c.some))) ∙ omega arith
 

@@ -1,5 +1,6 @@
 -- The Manchester coding: an octet becomes two of sixteen code octets, for its upper and its lower four bits. Assumes nothing.
-use Rattle.std.specs.Prelude.{ℕ, ◌+◌, ◌*◌, ◌/◌, ◌%◌, Bool, cond, ◌||◌, List, [], ◌∷◌, is_some, Some, None, Option, ◌==◌, slice_index}
+use Rattle.std.specs.Prelude.{ℕ, ◌+◌, ◌*◌, ◌/◌, ◌%◌, Bool, ◌||◌, List, [], ◌∷◌, is_some, Some, None, Option, ◌==◌, slice_index}
+use Rattle.std.specs.List.{position}
 use Rattle.radio.specs.declared.symbol.Symbol.{Symbol}
 use Rattle.radio.specs.declared.symbol.Symbol.TheVariants.{Clean, Spoiled}
 
@@ -7,14 +8,9 @@ use Rattle.radio.specs.declared.symbol.Symbol.TheVariants.{Clean, Spoiled}
 abbrev pub code_table : List ℕ
 code_table = 0x55 ∷ 0x56 ∷ 0x59 ∷ 0x5A ∷ 0x65 ∷ 0x66 ∷ 0x69 ∷ 0x6A ∷ 0x95 ∷ 0x96 ∷ 0x99 ∷ 0x9A ∷ 0xA5 ∷ 0xA6 ∷ 0xA9 ∷ 0xAA ∷ []
 
--- the place of c in a list whose first place is i
-abbrev pub place_in : ℕ → ℕ → List ℕ → Option ℕ
-place_in c i [] = None
-place_in c i (x ∷ xs) = cond (x == c) (Some i) (place_in c (i + 1) xs)
-
--- the value that an octet stands for, if it is a code octet
+-- the value that an octet stands for: its place among the code octets, if it is one
 abbrev pub value_of : ℕ → Option ℕ
-value_of c = place_in c 0 code_table
+value_of c = position (λ x. x == c) code_table
 
 abbrev pub nibble_of : Symbol → Option ℕ
 nibble_of (Clean c) = value_of c

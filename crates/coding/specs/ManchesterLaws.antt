@@ -2,7 +2,7 @@
 use Rattle.std.specs.Prelude.{◌≡◌, ℕ, zero, suc, ◌+◌, ◌*◌, ◌/◌, ◌%◌, ◌<◌, Bool, true, false, not, ◌&&◌, ◌||◌, ◌⊎◌, List, [], ◌∷◌, map, length, is_some, Some, None, Option, ◌==◌, nat_lt, slice_index, refl}
 use Rattle.std.proofs.Common.{sym, ap, subst, ◌∙◌, inl, inr, arith, lit≤, eqb-true, ltb-true}
 use Rattle.std.proofs.Math.Nat.{div-add-mod}
-use Rattle.std.proofs.lemmas.Bool.{eqb-false}
+use Rattle.std.proofs.lemmas.Bool.{and_parts, eqb-false}
 use Rattle.radio.specs.declared.symbol.Symbol.{Symbol}
 use Rattle.radio.specs.declared.symbol.Symbol.TheVariants.{Clean, Spoiled}
 use Rattle.radio.specs.Reception.{mark, any_octet, AsWritten, AllAsWritten}
@@ -15,14 +15,6 @@ every : ℕ → (ℕ → Bool) → Bool
 every zero p = true
 every (suc n) p = p n && every n p
 
-and_left : (a b : Bool) → (a && b) ≡ true → a ≡ true
-and_left true b e = refl
-and_left false b e = e
-
-and_right : (a b : Bool) → (a && b) ≡ true → b ≡ true
-and_right true b e = e
-and_right false b e = let z : ◌≡◌ {A = ℕ} 0 1 = cc in absurd (omega arith)
-
 apart_below : (k n : ℕ) → k < suc n → (k == n) ≡ false → k < n
 apart_below k n l q = let d = eqb-false k n q in omega arith
 
@@ -33,7 +25,7 @@ at_or_below k n p l e f false q = f (apart_below k n l q)
 every_at : (n : ℕ) (p : ℕ → Bool) → every n p ≡ true → (k : ℕ) → k < n → p k ≡ true
 unfolding every
 every_at zero p e k l = absurd (omega arith)
-every_at (suc n) p e k l = at_or_below k n p l (and_left (p n) (every n p) e) (every_at n p (and_right (p n) (every n p) e) k) (k == n) refl
+every_at (suc n) p e k l = let both = and_parts (p n) (every n p) e in at_or_below k n p l both.0 (every_at n p both.1 k) (k == n) refl
 
 is_at : Option ℕ → ℕ → Bool
 is_at None k = false
@@ -54,11 +46,11 @@ all_sound = refl
 
 pub code_octet : (k : ℕ) → k < 16 → slice_index code_table k < 256
 unfolding sound
-code_octet k l = ltb-true (slice_index code_table k) 256 (and_left (nat_lt (slice_index code_table k) 256) _ (every_at 16 sound all_sound k l))
+code_octet k l = ltb-true (slice_index code_table k) 256 (and_parts (nat_lt (slice_index code_table k) 256) _ (every_at 16 sound all_sound k l)).0
 
 pub code_value : (k : ℕ) → k < 16 → value_of (slice_index code_table k) ≡ Some k
 unfolding sound
-code_value k l = is_at_some (value_of (slice_index code_table k)) k (and_right (nat_lt (slice_index code_table k) 256) _ (every_at 16 sound all_sound k l))
+code_value k l = is_at_some (value_of (slice_index code_table k)) k (and_parts (nat_lt (slice_index code_table k) 256) _ (every_at 16 sound all_sound k l)).1
 
 pub upper : (x : ℕ) → x < 256 → x / 16 < 16
 upper x l = omega arith

@@ -2,25 +2,19 @@
 ghost use Rattle.coding.specs.Statements.{Decodes, Encodes, Marks, KeepsLaws, Inverse, Sizes};
 
 /// Codings work group by group, and every layer of a coding keeps the three laws.
-pub fn layers_hold() -> u8
+pub fn layers_hold()
     ensures decodes { Decodes }
     ensures encodes { Encodes }
     ensures marks { Marks }
     ensures keeps { KeepsLaws }
-{
-    0
-}
+{}
 
 /// Manchester's decoding is the inverse of its table, over the whole table.
-pub fn table_holds() -> u8
+pub fn table_holds()
     ensures { Inverse }
-{
-    0
-}
+{}
 
 /// The units and counts of Manchester and Block.
-pub fn sizes_hold() -> u8
+pub fn sizes_hold()
     ensures { Sizes }
-{
-    0
-}
+{}

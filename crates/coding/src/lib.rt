@@ -4,15 +4,16 @@
 ghost use Rattle.std.specs.Prelude.{◌≡◌, ℕ, ◌*◌, min, take};
 ghost use Rattle.coding.specs.Grouping.{Grouping};
 
-use crate::unit::unit_over;
 use radio::symbol::Symbol;
 
 pub mod block;
+pub mod group;
 pub mod laws;
 pub mod manchester;
-mod unit;
 
 /// A coding of octets, group by group.
+// A group is an array of 8 with `plain` or `coded` beside it: no array's size can be computed from a trait's number,
+// and no call here may allocate.
 pub trait Coding {
     ghost grouping: { Grouping };
 
@@ -36,6 +37,6 @@ pub trait Coding {
     fn unit_over(&self, unit: u16) -> u16
         ensures { (u : ℕ) → unit ≡ min u 65535 → result ≡ min (grouping.plain * u) 65535 }
     {
-        unit_over(unit, self.plain())
+        unit.saturating_mul(self.plain() as u16)
     }
 }

@@ -16,7 +16,7 @@ fn code(value: u8) -> u8
     requires { value < 16 }
     ensures { result ≡ slice_index code_table value }
 {
-    CODES[value as usize]
+    CODES[usize::from(value)]
 }
 
 /// The four bits that a symbol stands for, if it is a clean code octet.
@@ -27,12 +27,7 @@ fn nibble(s: Symbol) -> Option<u8>
     let Clean(c) = s else {
         return None;
     };
-    for i in 0..16 {
-        if CODES[i] == c {
-            return Some(i as u8);
-        }
-    }
-    None
+    CODES.iter().position(|x| *x == c).map(|place| place as u8)
 }
 
 /// The octet that two symbols stand for.

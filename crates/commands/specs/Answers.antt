@@ -1,12 +1,14 @@
 -- What is printed of the outcome of a command. Assumes nothing.
 use Rattle.std.specs.Prelude.{ℕ, min, List, [], ◌∷◌, ◌++◌, length, Some, None, Ok, Err, codes, decimal, Option, Result}
 use Rattle.std.proofs.Math.Utf8.{encodes}
+use Rattle.refusal.specs.declared.Fault.{Fault}
 use Rattle.refusal.specs.declared.Refusal.{Refusal}
 use Rattle.refusal.specs.Names.{refusal_text, cause_name}
 use Rattle.radio.specs.declared.symbol.Symbol.{Symbol}
 use Rattle.radio.specs.declared.symbol.Symbol.TheVariants.{Clean, Spoiled}
-use Rattle.radio.specs.Reception.{Reception, Ending, whole, fault}
+use Rattle.radio.specs.Reception.{Reception}
 use Rattle.payload.specs.Bodies.{Said, regain, dead, air, note, Standing}
+use Rattle.commands.specs.Endings.{fault_of}
 use Rattle.text.specs.Texts.{octet_text, octets_text, tenths_text, hundredths_text}
 
 abbrev pub end_of_line : List ℕ
@@ -38,7 +40,7 @@ abbrev pub bodies_text : Result (List Standing) Refusal → List ℕ
 bodies_text (Ok ss) = codes "bodies " ++ (decimal (length ss) ++ (end_of_line ++ body_lines ss))
 bodies_text (Err e) = refused_text e
 
--- the symbols of a reception, and how it ended
+-- the symbols of a reception
 abbrev pub symbol_text : Symbol → List ℕ
 symbol_text (Clean x) = octet_text x
 symbol_text Spoiled = codes "??"
@@ -51,12 +53,13 @@ abbrev pub symbols_text : List Symbol → List ℕ
 symbols_text [] = codes "-"
 symbols_text (s ∷ ss) = all_symbols (s ∷ ss)
 
-abbrev pub ending_text : Ending → List ℕ
-ending_text whole = codes " whole\n"
-ending_text (fault f) = codes " " ++ (cause_name f.cause ++ (codes " place " ++ (decimal f.place ++ (codes " rise " ++ (decimal f.rise ++ end_of_line)))))
+-- the fault that ended a reception, or a whole end
+abbrev pub ending_text : Option Fault → List ℕ
+ending_text None = codes " whole"
+ending_text (Some f) = codes " " ++ (cause_name f.cause ++ (codes " place " ++ (decimal f.place ++ (codes " rise " ++ decimal f.rise))))
 
 abbrev pub reception_line : Reception → List ℕ
-reception_line r = codes "  " ++ (symbols_text r.symbols ++ ending_text r.ending)
+reception_line r = codes "  " ++ (symbols_text r.symbols ++ (ending_text (fault_of r.ending) ++ end_of_line))
 
 abbrev pub reception_lines : List Reception → List ℕ
 reception_lines [] = []

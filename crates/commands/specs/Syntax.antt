@@ -8,6 +8,8 @@ use Rattle.commands.specs.declared.command.Bottom.{Bottom}
 use Rattle.commands.specs.declared.command.Bottom.TheVariants.{Octets, Bits}
 use Rattle.commands.specs.declared.command.Pile.{Pile}
 use Rattle.commands.specs.declared.command.Pile.TheVariants.{Plain, Standard, Blocks}
+use Rattle.commands.specs.declared.command.Piles.{Piles}
+use Rattle.commands.specs.declared.command.Piles.TheVariants.{Usual, Trial}
 use Rattle.commands.specs.declared.command.Ear.{Ear}
 use Rattle.commands.specs.declared.command.Ear.TheVariants.{Piled, Unit as OnUnit}
 use Rattle.commands.specs.Fields.{Given}
@@ -36,24 +38,35 @@ fields_read ws =
     Ok (record { kind = k; source = s; destination = d; payload = p })))))
 
 -- what is heard or written: octets or bits, and the layers over them
+abbrev pub bottom_named : List ℕ → Option Bottom
+bottom_named w = by_name ((codes "octets", Octets) ∷ (codes "bits", Bits) ∷ []) w
+
 abbrev pub bottom_word : List ℕ → Read Bottom
-bottom_word w = known (codes "LINE is octets or bits") (by_name ((codes "octets", Octets) ∷ (codes "bits", Bits) ∷ []) w)
+bottom_word w = known (codes "LINE is octets or bits") (bottom_named w)
 
-abbrev pub pile_word : List ℕ → Option Pile
-pile_word w = by_name ((codes "plain", Plain) ∷ (codes "standard", Standard) ∷ (codes "blocks", Blocks) ∷ []) w
+-- the layers over the bytes; three Block layers only on trial
+abbrev pub pile_word : Piles → List ℕ → Option Pile
+pile_word Usual w = by_name ((codes "plain", Plain) ∷ (codes "standard", Standard) ∷ []) w
+pile_word Trial w = by_name ((codes "plain", Plain) ∷ (codes "standard", Standard) ∷ (codes "blocks", Blocks) ∷ []) w
 
--- a unit above 0, over octets
-abbrev pub unit_ear : Bottom → Option ℕ → Option Ear
-unit_ear Octets (Some u) = cond (u == 0) None (Some (OnUnit u))
-unit_ear Octets None = None
-unit_ear Bits u = None
+-- a unit above 0, over octets and only on trial
+abbrev pub unit_ear : Piles → Bottom → Option ℕ → Option Ear
+unit_ear Usual b u = None
+unit_ear Trial Octets (Some u) = cond (u == 0) None (Some (OnUnit u))
+unit_ear Trial Octets None = None
+unit_ear Trial Bits u = None
 
-abbrev pub ear_of : Bottom → Option Pile → Option ℕ → Option Ear
-ear_of b (Some p) u = Some (Piled b p)
-ear_of b None u = unit_ear b u
+abbrev pub ear_of : Piles → Bottom → Option Pile → Option ℕ → Option Ear
+ear_of piles b (Some p) u = Some (Piled b p)
+ear_of piles b None u = unit_ear piles b u
 
-abbrev pub ear_word : Bottom → List ℕ → Read Ear
-ear_word b w = known (codes "PILE is plain, standard or blocks, or over octets a unit") (ear_of b (pile_word w) (number_word 65535 w))
+-- why another word is no pile
+abbrev pub wanted_text : Piles → List ℕ
+wanted_text Usual = codes "PILE is plain or standard"
+wanted_text Trial = codes "PILE is plain, standard or blocks, or over octets a unit"
+
+abbrev pub ear_word : Piles → Bottom → List ℕ → Read Ear
+ear_word piles b w = known (wanted_text piles) (ear_of piles b (pile_word piles w) (number_word 65535 w))
 
 -- the words behind the name of each command
 abbrev pub seal_read : List (List ℕ) → Read Said
@@ -62,27 +75,27 @@ seal_read ws = and_then (fields_read ws) (λ f. whole (seal f) (past 4 ws))
 abbrev pub bodies_read : List (List ℕ) → Read Said
 bodies_read ws = and_then (next (codes "PAYLOAD is missing") octets_read ws) (λ p. whole (bodies p) (past 1 ws))
 
-abbrev pub hear_read : List (List ℕ) → Read Said
-hear_read ws =
+abbrev pub hear_read : Piles → List (List ℕ) → Read Said
+hear_read piles ws =
     and_then (next (codes "LINE is missing") bottom_word ws) (λ b.
-    and_then (next (codes "PILE is missing") (ear_word b) (past 1 ws)) (λ e.
+    and_then (next (codes "PILE is missing") (ear_word piles b) (past 1 ws)) (λ e.
     and_then (next (codes "BYTES is missing") octets_read (past 2 ws)) (λ xs.
     whole (hear e xs) (past 3 ws))))
 
 abbrev pub verb_of : List ℕ → Option Verb
 verb_of w = by_name ((codes "seal", Seal) ∷ (codes "bodies", Bodies) ∷ (codes "hear", Hear) ∷ []) w
 
-abbrev pub by_verb : Option Verb → List (List ℕ) → Read Said
-by_verb None ws = Err (codes "no such command")
-by_verb (Some Seal) ws = seal_read ws
-by_verb (Some Bodies) ws = bodies_read ws
-by_verb (Some Hear) ws = hear_read ws
+abbrev pub by_verb : Piles → Option Verb → List (List ℕ) → Read Said
+by_verb piles None ws = Err (codes "no such command")
+by_verb piles (Some Seal) ws = seal_read ws
+by_verb piles (Some Bodies) ws = bodies_read ws
+by_verb piles (Some Hear) ws = hear_read piles ws
 
 -- a word that begins with `#` begins a comment
 abbrev pub comment : List ℕ → Bool
 comment [] = false
 comment (b ∷ bs) = b == 35
 
-abbrev pub line_read : List (List ℕ) → Read Said
-line_read [] = Ok nothing
-line_read (w ∷ ws) = cond (comment w) (Ok nothing) (by_verb (verb_of w) ws)
+abbrev pub line_read : Piles → List (List ℕ) → Read Said
+line_read piles [] = Ok nothing
+line_read piles (w ∷ ws) = cond (comment w) (Ok nothing) (by_verb piles (verb_of w) ws)

@@ -20,6 +20,7 @@ pub(crate) enum Verb {
 /// The fields of a message.
 #[derive(Drop)]
 pub(crate) struct Fields {
+    // a number, so that a type that there is none of comes to the library, which refuses it
     pub(crate) kind: u8,
     pub(crate) source: u16,
     pub(crate) destination: Option<u16>,
@@ -55,4 +56,13 @@ pub(crate) enum Pile {
     Plain,
     Standard,
     Blocks,
+}
+
+/// What `hear` takes for its pile.
+#[derive(Clone, Copy)]
+pub enum Piles {
+    /// No layer, or the standard pile.
+    Usual,
+    /// Also three Block layers, and over octets a unit.
+    Trial,
 }

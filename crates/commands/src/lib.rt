@@ -8,7 +8,9 @@ mod listing;
 mod parse;
 mod seal;
 mod session;
-mod unit_line;
+pub mod terminal;
+mod with_unit;
 mod words;
 
+pub use command::Piles;
 pub use session::serve;

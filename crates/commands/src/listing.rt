@@ -1,7 +1,7 @@
 ghost use Rattle.std.specs.Prelude.{◌≡◌, ◌++◌, IfOk, Some, string_bytes, OnOk};
 ghost use Rattle.std.specs.Fmt.{WritesOnOk};
 ghost use Rattle.commands.specs.Endings.{fault_of};
-ghost use Rattle.commands.specs.Answers.{symbol_text, symbols_text, reception_line, listing_text};
+ghost use Rattle.commands.specs.Answers.{ending_text, symbol_text, symbols_text, reception_line, listing_text};
 
 use radio::line::Line;
 use radio::symbol::Symbol;
@@ -16,6 +16,7 @@ pub(crate) fn listing<L: Line + Drop>(heap: Global, mut line: L) -> Result<Strin
 {
     let mut count = 0u64;
     let mut lines = String::new(heap);
+    // the line is opened by the condition, and the count is printed: no index
     while line.open().is_ok() {
         let reception = reception(heap, &mut line)?;
         lines.push_str(reception.as_str())?;
@@ -30,16 +31,28 @@ fn reception<L: Line>(heap: Global, line: &mut L) -> Result<String, AllocError>
     ensures coming { (L.Line.heard line.new).coming ≡ (L.Line.heard line.old).coming }
 {
     let mut taken = Vec::new(heap);
-    let ending = take_all(&mut taken, line)?;
+    let ending = Ending(take_all(&mut taken, line)?);
     let symbols = Symbols(taken.as_slice());
-    match ending {
-        Some(fault) => {
-            let name = fault.cause.name();
-            let place = fault.place;
-            let rise = fault.rise;
-            format!(in heap; "  {symbols} {name} place {place} rise {rise}\n")
+    format!(in heap; "  {symbols}{ending}\n")
+}
+
+/// How a reception ended: a fault, or none at a whole end.
+#[derive(Clone, Copy)]
+struct Ending(Option<Fault>);
+
+impl fmt::Display for Ending {
+    ghost output = { λ e. Some (ending_text e.0) };
+
+    fn fmt<W: fmt::Write>(&self, f: &mut fmt::Formatter<W>) -> fmt::Result {
+        match self.0 {
+            Some(fault) => {
+                let name = fault.cause.name();
+                let place = fault.place;
+                let rise = fault.rise;
+                write!(f, " {name} place {place} rise {rise}")
+            }
+            None => f.write_str(" whole"),
         }
-        None => format!(in heap; "  {symbols} whole\n"),
     }
 }
 
@@ -49,6 +62,7 @@ fn take_all<L: Line>(taken: &mut Vec<Symbol>, line: &mut L) -> Result<Option<Fau
     ensures symbols { OnOk result (taken.new.items ≡ taken.old.items ++ (L.Line.heard line.old).present.symbols) }
     ensures coming { (L.Line.heard line.new).coming ≡ (L.Line.heard line.old).coming }
 {
+    // the three answers of a take leave in three ways, and its fault is no error here
     loop {
         match line.take() {
             Ok(Some(symbol)) => taken.push(symbol)?,

@@ -1,8 +1,8 @@
 ghost use Rattle.std.specs.Prelude.{◌≡◌, IfOk, Some, None, string_bytes, MatchResult};
-ghost use Rattle.message.specs.Message.{message};
 ghost use Rattle.message.specs.Parts.{items};
 ghost use Rattle.commands.specs.Answers.{seal_text};
-ghost use Rattle.commands.specs.Seals.{refused_for};
+ghost use Rattle.commands.specs.Fields.{fields_of};
+ghost use Rattle.commands.specs.Seals.{refused_for, message_of};
 
 use crate::command::Fields;
 use message::draft::Draft;
@@ -14,7 +14,7 @@ use text::shown::Hex;
 
 /// `sealed HEX`, or `refused N NAME`.
 pub(crate) fn seal(heap: Global, fields: &Fields) -> Result<String, AllocError>
-    ensures { IfOk result (λ s. string_bytes s ≡ seal_text (refused_for fields.now.kind fields.now.destination fields.now.source fields.now.payload.items) (message fields.now.kind fields.now.destination fields.now.source fields.now.payload.items)) }
+    ensures { IfOk result (λ s. string_bytes s ≡ seal_text (refused_for (fields_of fields.now)) (message_of (fields_of fields.now))) }
 {
     match sealed(fields) {
         Ok(message) => {
@@ -27,7 +27,7 @@ pub(crate) fn seal(heap: Global, fields: &Fields) -> Result<String, AllocError>
 
 /// A draft of the checked header, with the payload added, sealed.
 pub(crate) fn sealed(fields: &Fields) -> Result<Sealed, Refusal>
-    ensures { MatchResult result (λ m. (refused_for fields.now.kind fields.now.destination fields.now.source fields.now.payload.items ≡ None) × (items m.octets ≡ message fields.now.kind fields.now.destination fields.now.source fields.now.payload.items)) (λ e. refused_for fields.now.kind fields.now.destination fields.now.source fields.now.payload.items ≡ Some e) }
+    ensures { MatchResult result (λ m. (refused_for (fields_of fields.now) ≡ None) × (items m.octets ≡ message_of (fields_of fields.now))) (λ e. refused_for (fields_of fields.now) ≡ Some e) }
 {
     let header = Header::new(fields.kind, fields.destination, fields.source)?;
     let mut draft = Draft::new(header);

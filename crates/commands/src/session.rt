@@ -1,11 +1,11 @@
 //! The commands on a recording: each `hear` makes the line that the commands behind it work on.
 use crate::bodies::bodies;
-use crate::command::{Bottom, Command, Ear, Pile, Recording};
+use crate::command::{Bottom, Command, Ear, Pile, Piles, Recording};
 use crate::console::Console;
 use crate::listing::listing;
 use crate::parse::parse;
 use crate::seal::seal;
-use crate::unit_line::UnitLine;
+use crate::with_unit::WithUnit;
 use coding::block::Block;
 use lines::bit_line::BitLine;
 use lines::octet_line::OctetLine;
@@ -18,52 +18,83 @@ use text::stop::Stop;
 
 /// Does the commands of a console, up to the end of its input. Before the first recording the line is one on which
 /// nothing was heard. Nothing says that an input ends, so the turns are counted.
-pub fn serve<C: Console>(console: &mut C) -> io::Result<()> {
-    let mut next = commands(console, OctetLine::new(b""))?;
+pub fn serve<C: Console>(console: &mut C, piles: Piles) -> io::Result<()> {
+    let mut session = Session { console, piles };
+    let mut next = session.commands(OctetLine::new(b""))?;
     for _ in 0..u64::MAX {
         let Some(recording) = next else {
             break;
         };
-        next = hear(console, &recording)?;
+        next = session.hear(&recording)?;
     }
     Ok(())
 }
 
-/// Prints what a recording holds and does the commands on a line over it, up to the next recording or the end.
-fn hear<C: Console>(console: &mut C, recording: &Recording) -> io::Result<Option<Recording>> {
-    let bytes = recording.bytes.as_slice();
-    match recording.ear {
-        Ear::Piled(Bottom::Octets, pile) => piled(
-            console,
-            pile,
-            OctetLine::new(bytes),
-            OctetLine::new(bytes),
-        ),
-        Ear::Piled(Bottom::Bits, pile) => piled(
-            console,
-            pile,
-            BitLine::new(bytes),
-            BitLine::new(bytes),
-        ),
-        Ear::Unit(unit) => on_line(
-            console,
-            UnitLine::new(bytes, unit),
-            UnitLine::new(bytes, unit),
-        ),
-    }
+/// The commands of a console, with what `hear` takes for its pile.
+#[derive(Drop)]
+struct Session<'a, C: Console> {
+    console: &'a mut C,
+    piles: Piles,
 }
 
-/// The same through a pile over two lines on the same bytes.
-fn piled<C: Console, L: Line + Drop>(
-    console: &mut C,
-    pile: Pile,
-    heard: L,
-    line: L,
-) -> io::Result<Option<Recording>> {
-    match pile {
-        Pile::Plain => on_line(console, heard, line),
-        Pile::Standard => on_line(console, standard_reading(heard), standard_reading(line)),
-        Pile::Blocks => on_line(console, blocks_reading(heard), blocks_reading(line)),
+impl<'a, C: Console> Session<'a, C> {
+    /// Prints what a recording holds and does the commands on a line over it, up to the next recording or the end.
+    fn hear(&mut self, recording: &Recording) -> io::Result<Option<Recording>> {
+        let bytes = recording.bytes.as_slice();
+        match recording.ear {
+            Ear::Piled(Bottom::Octets, pile) => self.piled(
+                pile,
+                OctetLine::new(bytes),
+                OctetLine::new(bytes),
+            ),
+            Ear::Piled(Bottom::Bits, pile) => self.piled(
+                pile,
+                BitLine::new(bytes),
+                BitLine::new(bytes),
+            ),
+            Ear::Unit(unit) => self.on_line(
+                WithUnit::new(OctetLine::new(bytes), unit),
+                WithUnit::new(OctetLine::new(bytes), unit),
+            ),
+        }
+    }
+
+    // A line is no copy, so two are made on the same bytes: one is listed to its end, the other stays.
+    /// The same through a pile over both lines.
+    fn piled<L: Line + Drop>(
+        &mut self,
+        pile: Pile,
+        heard: L,
+        line: L,
+    ) -> io::Result<Option<Recording>> {
+        match pile {
+            Pile::Plain => self.on_line(heard, line),
+            Pile::Standard => self.on_line(standard_reading(heard), standard_reading(line)),
+            Pile::Blocks => self.on_line(blocks_reading(heard), blocks_reading(line)),
+        }
+    }
+
+    /// Lists all that `heard` holds; `line`, over the same bytes, stays for the commands.
+    fn on_line<L: Line + Drop>(&mut self, heard: L, line: L) -> io::Result<Option<Recording>> {
+        let text = listing(self.console.heap(), heard)?;
+        self.console.print(text.as_str())?;
+        self.commands(line)
+    }
+
+    /// Does the commands up to the next recording, which it hands back, or to the end of the input.
+    fn commands<L: Line + Drop>(&mut self, mut line: L) -> io::Result<Option<Recording>> {
+        let heap = self.console.heap();
+        for _ in 0..u64::MAX {
+            let Some(text) = self.console.read()? else {
+                return Ok(None);
+            };
+            let (out, recording) = answer(heap, self.piles, text.as_slice(), &mut line)?;
+            self.console.print(out.as_str())?;
+            if recording.is_some() {
+                return Ok(recording);
+            }
+        }
+        Ok(None)
     }
 }
 
@@ -73,43 +104,15 @@ fn blocks_reading<L: Line>(line: L) -> Reading<Block, Reading<Block, Reading<Blo
     Reading::new(Block {}, Reading::new(Block {}, lowest))
 }
 
-/// Lists all that `heard` holds; `line`, over the same bytes, stays for the commands.
-fn on_line<C: Console, L: Line + Drop>(
-    console: &mut C,
-    heard: L,
-    line: L,
-) -> io::Result<Option<Recording>> {
-    let text = listing(console.heap(), heard)?;
-    console.print(text.as_str())?;
-    commands(console, line)
-}
-
-/// Does the commands up to the next recording, which it hands back, or to the end of the input.
-fn commands<C: Console, L: Line + Drop>(
-    console: &mut C,
-    mut line: L,
-) -> io::Result<Option<Recording>> {
-    let heap = console.heap();
-    for _ in 0..u64::MAX {
-        let Some(text) = console.read()? else {
-            return Ok(None);
-        };
-        let (out, recording) = answer(heap, text.as_slice(), &mut line)?;
-        console.print(out.as_str())?;
-        if recording.is_some() {
-            return Ok(recording);
-        }
-    }
-    Ok(None)
-}
-
 /// What is printed for one line of input, nothing for a blank line and for a comment, and the recording that it brought.
+/// The line stands by for commands that read from it; there is none yet.
 fn answer<L: Line>(
     heap: Global,
+    piles: Piles,
     text: &[u8],
     _line: &mut L,
 ) -> Result<(String, Option<Recording>), AllocError> {
-    match parse(heap, text) {
+    match parse(heap, piles, text) {
         Ok(Command::Nothing) => Ok((String::new(heap), None)),
         Ok(Command::Seal(fields)) => Ok((seal(heap, &fields)?, None)),
         Ok(Command::Bodies(payload)) => Ok((bodies(heap, payload.as_slice())?, None)),

@@ -3,14 +3,14 @@ ghost use Rattle.std.specs.Prelude.{◌≡◌, codes, OnOk};
 ghost use Rattle.text.specs.Reads.{Told, next, past};
 ghost use Rattle.text.specs.Words.{to_come, behind};
 ghost use Rattle.commands.specs.Fields.{fields_of};
-ghost use Rattle.commands.specs.Syntax.{kind_word, destination_word, bottom_word, pile_word, ear_word, fields_read};
+ghost use Rattle.commands.specs.Syntax.{kind_word, destination_word, bottom_named, bottom_word, pile_word, ear_word, wanted_text, fields_read};
 
-use crate::command::{Bottom, Ear, Fields, Pile};
+use crate::command::{Bottom, Ear, Fields, Pile, Piles};
 use std::alloc::Global;
 use text::hex::{address, is_dash};
 use text::number::number;
 use text::stop::Stop;
-use text::words::{Words, is};
+use text::words::Words;
 
 /// `KIND SOURCE DESTINATION PAYLOAD`
 pub(crate) fn fields(heap: Global, words: &mut Words<'_>) -> Result<Fields, Stop>
@@ -33,6 +33,7 @@ pub(crate) fn kind(words: &mut Words<'_>) -> Result<u8, Stop>
     ensures word { Told (λ k. k) result (next (codes "KIND is missing") kind_word (to_come words.old)) }
     ensures left { to_come words.new ≡ behind (to_come words.old) }
 {
+    // `as` is proved to lose nothing; `u8::try_from` would answer an error that cannot come.
     let kind = words.number(255, "KIND is missing", "KIND is a number up to 255")?;
     Ok(kind as u8)
 }
@@ -50,63 +51,65 @@ fn destination_of(word: &[u8]) -> Result<Option<u16>, Stop>
     if is_dash(word) {
         return Ok(None);
     }
-    match address(word) {
-        Some(a) => Ok(Some(a)),
-        None => Err(Stop::Unread("DESTINATION is four hex digits, or - for none")),
-    }
+    let wrong = Stop::Unread("DESTINATION is four hex digits, or - for none");
+    Ok(Some(address(word).ok_or(wrong)?))
 }
 
 pub(crate) fn bottom(words: &mut Words<'_>) -> Result<Bottom, Stop>
     ensures word { Told (λ b. b) result (next (codes "LINE is missing") bottom_word (to_come words.old)) }
     ensures left { to_come words.new ≡ behind (to_come words.old) }
 {
-    bottom_of(words.want("LINE is missing")?)
+    bottom_of(words.want("LINE is missing")?).ok_or(Stop::Unread("LINE is octets or bits"))
 }
 
-fn bottom_of(word: &[u8]) -> Result<Bottom, Stop>
-    ensures { Told (λ b. b) result (bottom_word word.now) }
+fn bottom_of(word: &[u8]) -> Option<Bottom>
+    ensures { result ≡ bottom_named word.now }
 {
-    if is(word, "octets") {
-        return Ok(Bottom::Octets);
+    match word {
+        b"octets" => Some(Bottom::Octets),
+        b"bits" => Some(Bottom::Bits),
+        _ => None,
     }
-    if is(word, "bits") {
-        return Ok(Bottom::Bits);
-    }
-    Err(Stop::Unread("LINE is octets or bits"))
 }
 
 /// A pile over `bottom`, or the unit of a bare octet line.
-pub(crate) fn ear(bottom: Bottom, words: &mut Words<'_>) -> Result<Ear, Stop>
-    ensures word { Told (λ e. e) result (next (codes "PILE is missing") (ear_word bottom) (to_come words.old)) }
+pub(crate) fn ear(piles: Piles, bottom: Bottom, words: &mut Words<'_>) -> Result<Ear, Stop>
+    ensures word { Told (λ e. e) result (next (codes "PILE is missing") (ear_word piles bottom) (to_come words.old)) }
     ensures left { to_come words.new ≡ behind (to_come words.old) }
 {
-    ear_of(bottom, words.want("PILE is missing")?)
+    ear_of(piles, bottom, words.want("PILE is missing")?)
 }
 
-fn ear_of(bottom: Bottom, word: &[u8]) -> Result<Ear, Stop>
-    ensures { Told (λ e. e) result (ear_word bottom word.now) }
+fn ear_of(piles: Piles, bottom: Bottom, word: &[u8]) -> Result<Ear, Stop>
+    ensures { Told (λ e. e) result (ear_word piles bottom word.now) }
 {
-    if let Some(pile) = pile_of(word) {
+    if let Some(pile) = pile_of(piles, word) {
         return Ok(Ear::Piled(bottom, pile));
     }
-    match (bottom, number(word, 65535)) {
-        (Bottom::Octets, Some(unit)) if unit > 0 => Ok(Ear::Unit(unit as u16)),
-        _ => Err(Stop::Unread("PILE is plain, standard or blocks, or over octets a unit")),
+    match (piles, bottom, number(word, 65535)) {
+        (Piles::Trial, Bottom::Octets, Some(unit)) if unit > 0 => Ok(Ear::Unit(unit as u16)),
+        _ => Err(Stop::Unread(wanted(piles))),
     }
 }
 
 /// The layers that a word names.
-fn pile_of(word: &[u8]) -> Option<Pile>
-    ensures { result ≡ pile_word word.now }
+fn pile_of(piles: Piles, word: &[u8]) -> Option<Pile>
+    ensures { result ≡ pile_word piles word.now }
 {
-    if is(word, "plain") {
-        return Some(Pile::Plain);
+    match (piles, word) {
+        (_, b"plain") => Some(Pile::Plain),
+        (_, b"standard") => Some(Pile::Standard),
+        (Piles::Trial, b"blocks") => Some(Pile::Blocks),
+        _ => None,
     }
-    if is(word, "standard") {
-        return Some(Pile::Standard);
+}
+
+/// Why another word is no pile.
+fn wanted(piles: Piles) -> &'static str
+    ensures { result.now ≡ wanted_text piles }
+{
+    match piles {
+        Piles::Usual => "PILE is plain or standard",
+        Piles::Trial => "PILE is plain, standard or blocks, or over octets a unit",
     }
-    if is(word, "blocks") {
-        return Some(Pile::Blocks);
-    }
-    None
 }

@@ -1,2 +1,3 @@
 pub mod Playing
 pub mod Sendings
+pub mod Words

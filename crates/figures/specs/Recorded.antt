@@ -1,9 +1,9 @@
 -- What one recording reads to. Assumes nothing.
-use Rattle.std.specs.Prelude.{ℕ, List, [], ◌∷◌, replicate, Some}
+use Rattle.std.specs.Prelude.{ℕ, List, [], ◌∷◌, replicate, Some, Ok, Err}
 use Rattle.refusal.specs.declared.Refusal.TheVariants.{Quiet as QUIET, Weak as WEAK}
 use Rattle.station.specs.declared.filters.Facts.{Facts}
-use Rattle.orders.specs.declared.order.Outcome.{Outcome}
-use Rattle.orders.specs.declared.order.Outcome.TheVariants.{Set, Message, Refused}
+use Rattle.orders.specs.Outcomes.{DoneOrRefused}
+use Rattle.orders.specs.declared.order.Done.TheVariants.{Set, Message}
 
 -- what is told of the message 09 03 01 02 03 04 7F 00 95: type 3, from 0304 to 0102, one octet of payload
 abbrev pub report_facts : ℕ → Facts
@@ -14,5 +14,5 @@ abbrev pub report_payload : List ℕ
 report_payload = 0x7F ∷ replicate 65 0x00
 
 -- the message is handed up at the strengths 40 and 255, a filter is set, and two reads are refused
-abbrev pub recorded_outcomes : List Outcome
-recorded_outcomes = Message (report_facts 40) report_payload ∷ Message (report_facts 255) report_payload ∷ Set ∷ Refused WEAK ∷ Refused QUIET ∷ []
+abbrev pub recorded_outcomes : List DoneOrRefused
+recorded_outcomes = Ok (Message (report_facts 40) report_payload) ∷ Ok (Message (report_facts 255) report_payload) ∷ Ok Set ∷ Err WEAK ∷ Err QUIET ∷ []

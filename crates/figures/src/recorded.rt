@@ -4,7 +4,7 @@ ghost use Rattle.figures.specs.Orders.{heard_in, SendsNothing, come_to};
 ghost use Rattle.figures.specs.Recorded.{recorded_outcomes};
 
 use lines::octet_line::OctetLine;
-use orders::order::{Order, Outcome};
+use orders::order::{Done, Order, Outcome};
 use orders::run::run;
 use outlets::octet_outlet::OctetOutlet;
 use refusal::Refusal;
@@ -40,7 +40,7 @@ fn play_on(heap: Global, bytes: &[u8], orders: &[Order; 5]) -> Result<[Outcome; 
 {
     let mut line = standard_reading(OctetLine::new(bytes));
     let mut outlet = OctetOutlet::new(Vec::new(heap));
-    let mut outcomes = [Outcome::Set; 5];
+    let mut outcomes = [Ok(Done::Set); 5];
     run(0x0102, &mut line, &mut outlet, orders, &mut outcomes)?;
     Ok(outcomes)
 }

@@ -1,14 +1,33 @@
-ghost use Rattle.std.specs.Prelude.{◌≡◌, IfOk};
+ghost use Rattle.std.specs.Prelude.{◌≡◌};
 ghost use Rattle.figures.specs.Tallies.{first_words, Told};
+ghost use Rattle.figures.specs.declared.tally.Halt.TheVariants.{Memory};
 
-use std::alloc::{AllocError, Global};
+use std::alloc::{AllocError, AllocFailed, Global};
 use std::collections::{BTreeMap, VecDeque};
 
-/// An answer that is not the expected one.
+/// Why lines are held against each other no further.
 #[derive(Drop)]
-pub(crate) struct Difference {
-    pub(crate) expected: Vec<u8>,
-    pub(crate) answered: Vec<u8>,
+pub(crate) enum Halt {
+    /// An answer is not the expected one.
+    Difference {
+        expected: Vec<u8>,
+        answered: Vec<u8>,
+    },
+    Memory(AllocError),
+}
+
+impl From<AllocError> for Halt {
+    ghost from_gives = { λ x e. e ≡ Memory x };
+
+    fn from(error: AllocError) -> Halt {
+        Halt::Memory(error)
+    }
+}
+
+impl<T: Drop> From<AllocFailed<T>> for Halt {
+    fn from(_failed: AllocFailed<T>) -> Halt {
+        Halt::Memory(AllocError)
+    }
 }
 
 /// The lines expected and the lines answered, held against each other in their order as they come, and how many answers
@@ -16,7 +35,7 @@ pub(crate) struct Difference {
 #[derive(Drop)]
 pub(crate) struct Tally {
     heap: Global,
-    /// Lines that wait for their counterpart.
+    /// Lines that wait for their counterpart: never some on both sides.
     expected: VecDeque<Vec<u8>>,
     answered: VecDeque<Vec<u8>>,
     pub(crate) counts: BTreeMap<Vec<u8>, u64>,
@@ -32,40 +51,30 @@ impl Tally {
         }
     }
 
-    pub(crate) fn expect(&mut self, line: &[u8]) -> Result<Option<Difference>, AllocError> {
-        self.expected.push_back(line.to_vec(self.heap)?)?;
-        self.compare()
-    }
-
-    pub(crate) fn answer(&mut self, line: &[u8]) -> Result<Option<Difference>, AllocError> {
-        self.answered.push_back(line.to_vec(self.heap)?)?;
-        self.compare()
-    }
-
-    /// Compares the first line of either side, if both have one.
-    fn compare(&mut self) -> Result<Option<Difference>, AllocError> {
-        if self.expected.is_empty() || self.answered.is_empty() {
-            return Ok(None);
+    pub(crate) fn expect(&mut self, line: &[u8]) -> Result<(), Halt> {
+        let expected = line.to_vec(self.heap)?;
+        match self.answered.pop_front() {
+            Some(answered) => self.settle(expected, answered),
+            None => Ok(self.expected.push_back(expected)?),
         }
-        match (self.expected.pop_front(), self.answered.pop_front()) {
-            (Some(expected), Some(answered)) => self.settle(expected, answered),
-            _ => Ok(None),
+    }
+
+    pub(crate) fn answer(&mut self, line: &[u8]) -> Result<(), Halt> {
+        let answered = line.to_vec(self.heap)?;
+        match self.expected.pop_front() {
+            Some(expected) => self.settle(expected, answered),
+            None => Ok(self.answered.push_back(answered)?),
         }
     }
 
     /// Counts an answer that is the expected one.
-    fn settle(
-        &mut self,
-        expected: Vec<u8>,
-        answered: Vec<u8>,
-    ) -> Result<Option<Difference>, AllocError>
-        ensures { IfOk result (λ d. Told expected.items answered.items d) }
+    fn settle(&mut self, expected: Vec<u8>, answered: Vec<u8>) -> Result<(), Halt>
+        ensures { Told expected.items answered.items result }
     {
-        if expected.as_slice() == answered.as_slice() {
-            self.count(answered.as_slice())?;
-            return Ok(None);
+        if expected != answered {
+            return Err(Halt::Difference { expected, answered });
         }
-        Ok(Some(Difference { expected, answered }))
+        Ok(self.count(answered.as_slice())?)
     }
 
     /// Counts an answer under its kind; lines that begin with a blank go with the answer above them.
@@ -78,18 +87,13 @@ impl Tally {
         Ok(())
     }
 
-    /// What is left on one side, where the other has ended.
-    pub(crate) fn end(&mut self) -> Option<Difference> {
-        let none = Vec::new(self.heap);
+    /// Refuses what is left on one side, where the other has ended.
+    pub(crate) fn end(&mut self) -> Result<(), Halt> {
         match (self.expected.pop_front(), self.answered.pop_front()) {
-            (None, None) => None,
-            (Some(expected), _) => Some(Difference {
-                expected,
-                answered: none,
-            }),
-            (None, Some(answered)) => Some(Difference {
-                expected: none,
-                answered,
+            (None, None) => Ok(()),
+            (expected, answered) => Err(Halt::Difference {
+                expected: expected.unwrap_or(Vec::new(self.heap)),
+                answered: answered.unwrap_or(Vec::new(self.heap)),
             }),
         }
     }
@@ -108,14 +112,9 @@ fn kind_of(line: &[u8]) -> &[u8] {
 fn words(line: &[u8], count: usize) -> &[u8]
     ensures { result.now ≡ first_words count line.now }
 {
-    let mut left = count;
-    for (i, byte) in line.iter().enumerate() {
-        if *byte == b' ' {
-            if left <= 1 {
-                return &line[0..i];
-            }
-            left -= 1;
-        }
+    let mut blanks = line.iter().enumerate().filter(|(_, byte)| **byte == b' ');
+    match blanks.nth(count.saturating_sub(1)) {
+        Some((end, _)) => &line[..end],
+        None => line,
     }
-    line
 }

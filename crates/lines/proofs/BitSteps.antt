@@ -1,12 +1,13 @@
 -- The receptions of bits, from one place to the next.
-use Rattle.std.proofs.Common.{◌≡◌, ℕ, zero, suc, ◌+◌, ◌-◌, ◌<◌, ◌≤◌, true, false, ◌&&◌, eqb, ltb, List, [], ◌∷◌, length, take, drop, is_some, Some, None, Option, sym, refl, ap, ◌∙◌, arith}
-use Rattle.std.proofs.lemmas.List.{drop-drop, length-drop, get_or-take, take-take, drop-take}
+use Rattle.std.proofs.Common.{◌≡◌, ℕ, zero, suc, ◌+◌, ◌-◌, ◌<◌, ◌≤◌, true, false, ◌&&◌, eqb, ltb, List, [], ◌∷◌, length, take, drop, is_some, Some, None, Option, sym, refl, ap, ◌∙◌, subst, arith}
+use Rattle.std.proofs.lemmas.List.{drop-drop, length-drop, length-take, get_or-take, take-take, drop-take}
 use Rattle.std.proofs.lemmas.Bool.{and_parts, or_from, or_left, or_right, cond-true, cond-false, false≢true, lt-ltb, le-ltb}
+use Rattle.std.specs.Option.{MatchOption}
 use Rattle.refusal.specs.declared.Cause.TheVariants.{Dry, Cut}
 use Rattle.radio.specs.declared.symbol.Symbol.{Symbol}
-use Rattle.radio.specs.Reception.{whole, made_at, ending_in, before}
-use Rattle.lines.specs.HeardBits.{begins, sign, sign_here, sign_within, symbol_here, ends_it, next_in, reception_from, receptions_from}
-use Rattle.lines.specs.Looks.{NoSign, FirstOfTen}
+use Rattle.radio.specs.Reception.{made_at, ending_in}
+use Rattle.lines.specs.HeardBits.{begins, sign, sign_here, sign_within, symbol_here, next_in, reception_from, receptions_from}
+use Rattle.lines.specs.Looks.{NoSign, FirstOfTen, SymbolIn}
 
 -- bits to pass are dropped
 reception_pass : (k n : ℕ) (zs : List ℕ) → reception_from k n zs ≡ reception_from 0 n (drop k zs)
@@ -101,11 +102,8 @@ drop_take_of k zs h =
     let e : 29 ≡ k + (29 - k) = omega arith in
     ap (λ n. drop k (take n zs)) e ∙ drop-take k (29 - k) zs
 
-pub same_sign : (xs ys : List ℕ) (k : ℕ) → take 29 xs ≡ take 29 ys → k < 10 → sign_here (drop k xs) ≡ sign_here (drop k ys)
-same_sign xs ys k e h =
-    sym (sign_take (drop k xs) (29 - k) (omega arith))
-    ∙ ap sign_here (sym (drop_take_of k xs h) ∙ ap (drop k) e ∙ drop_take_of k ys h)
-    ∙ sign_take (drop k ys) (29 - k) (omega arith)
+same_sign : (zs : List ℕ) (k : ℕ) → k < 10 → sign_here (drop k (take 29 zs)) ≡ sign_here (drop k zs)
+same_sign zs k h = ap sign_here (drop_take_of k zs h) ∙ sign_take (drop k zs) (29 - k) (omega arith)
 
 symbol_take : (zs : List ℕ) → symbol_here (take 29 zs) ≡ symbol_here zs
 symbol_take zs =
@@ -114,30 +112,40 @@ symbol_take zs =
     let d : take 8 (drop 1 (take 29 zs)) ≡ take 8 (drop 1 zs) = ap (take 8) (drop-take 1 28 zs) ∙ take-take 8 28 (drop 1 zs) (omega arith) in
     cc
 
-pub same_symbol : (xs ys : List ℕ) → take 29 xs ≡ take 29 ys → symbol_here xs ≡ symbol_here ys
-same_symbol xs ys e = sym (symbol_take xs) ∙ ap symbol_here e ∙ symbol_take ys
+-- so the looks at 29 bits are looks at all
+looked_first : (zs : List ℕ) (o : Option ℕ) → FirstOfTen (take 29 zs) o → FirstOfTen zs o
+looked_first zs None h = λ j l. sym (same_sign zs j l) ∙ h j l
+looked_first zs (Some k) h = (h.0, sym (same_sign zs k h.0) ∙ h.1, λ j l. sym (same_sign zs j (omega arith)) ∙ h.2 j l)
 
--- so the looks at a window of 29 bits are looks at all
-pub looked : (xs ys : List ℕ) (o : Option ℕ) → take 29 xs ≡ take 29 ys → FirstOfTen xs o → FirstOfTen ys o
-looked xs ys None e h = λ j l. sym (same_sign xs ys j e l) ∙ h j l
-looked xs ys (Some k) e h = (h.0, sym (same_sign xs ys k e h.0) ∙ h.1, λ j l. sym (same_sign xs ys j e (omega arith)) ∙ h.2 j l)
+symbol_first : (zs : List ℕ) (o : Option Symbol) → SymbolIn (take 29 zs) o → SymbolIn zs o
+symbol_first zs None h = omega (arith, length-take 29 zs)
+symbol_first zs (Some s) h = (omega (arith, length-take 29 zs, h.0), h.1 ∙ symbol_take zs)
 
-pub some_of_ten : (zs : List ℕ) (o : Option ℕ) → FirstOfTen zs o → is_some o ≡ true → sign_within 10 zs ≡ true
+-- the first of ten places, as a search finds it
+pub first_of_ten : (zs : List ℕ) (o : Option ℕ) →
+    MatchOption o ((k : ℕ) → 0 ≤ k → k < 10 → sign_here (drop k zs) ≡ false)
+    (λ i. (0 ≤ i) × (i < 10) × (sign_here (drop i zs) ≡ true) × ((k : ℕ) → 0 ≤ k → k < i → sign_here (drop k zs) ≡ false)) →
+    FirstOfTen zs o
+first_of_ten zs None h = λ j l. h j (omega arith) l
+first_of_ten zs (Some k) h = (h.1, h.2, λ j l. h.3 j (omega arith) l)
+
+some_of_ten : (zs : List ℕ) (o : Option ℕ) → FirstOfTen zs o → is_some o ≡ true → sign_within 10 zs ≡ true
 some_of_ten zs None h e = absurd (false≢true e)
 some_of_ten zs (Some k) h e = some_within k 10 zs h.0 h.1
 
-pub none_of_ten : (zs : List ℕ) (o : Option ℕ) → FirstOfTen zs o → is_some o ≡ false → NoSign 10 zs
+none_of_ten : (zs : List ℕ) (o : Option ℕ) → FirstOfTen zs o → is_some o ≡ false → NoSign 10 zs
 none_of_ten zs None h e = h
 none_of_ten zs (Some k) h e = absurd (false≢true (sym e))
 
--- the next ten bits, by the symbol in them
-pub whole_at : (n : ℕ) (zs : List ℕ) (s : Symbol) → NoSign 10 zs → 10 ≤ length zs → symbol_here zs ≡ s → ends_it s ≡ true → reception_from 0 n zs ≡ ending_in whole
-whole_at n zs s h l e t =
-    let rest = reception_from 0 (n + 1) (drop 10 zs) in
-    next_at n zs (none_within 10 zs h) l ∙ ap (λ v. next_in v rest) e ∙ cond-true (ends_it s) _ _ t
+module _ (xs zs : List ℕ) (e : xs ≡ take 29 zs) where
+  pub looked : (o : Option ℕ) → FirstOfTen xs o → FirstOfTen zs o
+  looked o h = looked_first zs o (subst (λ l. FirstOfTen l o) e h)
 
-pub symbol_at : (n : ℕ) (zs : List ℕ) (s : Symbol) → NoSign 10 zs → 10 ≤ length zs → symbol_here zs ≡ s → ends_it s ≡ false →
-    reception_from 0 n zs ≡ before s (reception_from 0 (n + 1) (drop 10 zs))
-symbol_at n zs s h l e t =
-    let rest = reception_from 0 (n + 1) (drop 10 zs) in
-    next_at n zs (none_within 10 zs h) l ∙ ap (λ v. next_in v rest) e ∙ cond-false (ends_it s) _ _ t
+  pub cut_seen : (o : Option ℕ) → FirstOfTen xs o → is_some o ≡ true → (n : ℕ) → reception_from 0 n zs ≡ ending_in (made_at Cut n)
+  cut_seen o h t n = cut_at n zs (some_of_ten zs o (looked o h) t)
+
+  pub free_seen : (o : Option ℕ) → FirstOfTen xs o → is_some o ≡ false → NoSign 10 zs
+  free_seen o h t = none_of_ten zs o (looked o h) t
+
+  pub symbol_seen : (o p : Option Symbol) → SymbolIn xs o → o ≡ p → SymbolIn zs p
+  symbol_seen o p h q = subst (λ z. SymbolIn zs z) q (symbol_first zs o (subst (λ l. SymbolIn l o) e h))

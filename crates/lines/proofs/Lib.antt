@@ -1,4 +1,4 @@
-pub mod AtBottom
 pub mod BitSteps
 pub mod OctetSteps
 pub mod SignBits
+pub mod Steps

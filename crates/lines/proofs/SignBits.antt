@@ -1,5 +1,5 @@
 -- The bits of bytes from a place on as a number, and a sign and a symbol by the number of their bits.
-use Rattle.std.proofs.Common.{◌≡◌, ℕ, zero, suc, ◌+◌, ◌-◌, ◌*◌, ◌/◌, ◌%◌, ◌^◌, ◌<◌, ◌≤◌, cond, ◌&&◌, eqb, leb, List, [], ◌∷◌, ◌++◌, length, get_or, take, drop, sym, refl, ap, ◌∙◌, subst, mul_assoc, arith}
+use Rattle.std.proofs.Common.{◌≡◌, ℕ, zero, suc, ◌+◌, ◌-◌, ◌*◌, ◌/◌, ◌%◌, ◌^◌, ◌<◌, ◌≤◌, cond, ◌&&◌, eqb, leb, min, List, [], ◌∷◌, ◌++◌, length, get_or, take, drop, sym, refl, ap, ◌∙◌, subst, mul_assoc, arith}
 use native.Mathlib.Nat.{pow-succ'}
 use Rattle.std.proofs.lemmas.List.{drop-drop, get_or-drop, length-drop}
 use Rattle.std.proofs.lemmas.Bool.Decides.{nat_tests}
@@ -94,20 +94,37 @@ same_window (suc (suc (suc (suc (suc (suc zero)))))) w m h = omega arith
 same_window (suc (suc (suc (suc (suc (suc (suc zero))))))) w m h = omega arith
 same_window (suc (suc (suc (suc (suc (suc (suc (suc s)))))))) w m h = absurd (omega arith)
 
-pub window_at : (xs : List ℕ) → ((i : ℕ) → get_or xs i 0 < 256) → (p w : ℕ) →
-    w ≡ get_or xs (p / 8) 0 + get_or xs (p / 8 + 1) 0 * 256 + get_or xs (p / 8 + 2) 0 * 65536 + get_or xs (p / 8 + 3) 0 * 16777216 + get_or xs (p / 8 + 4) 0 * 4294967296 →
-    take 29 (bits (8 * length xs - p) ((w / 2 ^ (p % 8)) % 536870912)) ≡ take 29 (drop p (bits_of xs))
-window_at xs h p w e =
+-- the bits of a number, and the first of them
+pub length_low : (n x : ℕ) → length (bits n x) ≡ n
+length_low zero x = refl
+length_low (suc n) x = ap suc (length_low n (x / 2))
+
+first_low : (k n x : ℕ) → bits (min n k) x ≡ take k (bits n x)
+first_low zero n x = same_bits {m = min n 0} {n = 0} {x = x} (omega arith) refl
+first_low (suc k) zero x = same_bits {m = min 0 (suc k)} {n = 0} {x = x} (omega arith) refl
+first_low (suc k) (suc n) x =
+    let e : min (suc n) (suc k) ≡ suc (min n k) = omega arith in
+    ap (λ j. bits j x) e ∙ ap (λ l. x % 2 ∷ l) (first_low k n (x / 2))
+
+abbrev pub five_bytes : List ℕ → ℕ → ℕ
+five_bytes xs f = get_or xs f 0 + get_or xs (f + 1) 0 * 256 + get_or xs (f + 2) 0 * 65536 + get_or xs (f + 3) 0 * 16777216 + get_or xs (f + 4) 0 * 4294967296
+
+pub window_at : (xs : List ℕ) → ((i : ℕ) → get_or xs i 0 < 256) → (p w m : ℕ) → w ≡ five_bytes xs (p / 8) + 1099511627776 * m →
+    bits (min (8 * length xs - p) 29) ((w / 2 ^ (p % 8)) % 536870912) ≡ take 29 (drop p (bits_of xs))
+window_at xs h p w m e =
     let f = p / 8 in
     let s = p % 8 in
     let n = 8 * length xs - p in
+    let five = five_bytes xs f in
     let whole : 8 * (p / 8) + p % 8 ≡ p = omega arith in
-    let m : little (drop f xs) ≡ w + 1099511627776 * little (drop (f + 5) xs) = little_five xs f ∙ ap (λ v. v + 1099511627776 * little (drop (f + 5) xs)) (sym e) in
-    let r : (w / 2 ^ s) % 536870912 ≡ (little (drop f xs) / 2 ^ s) % 536870912 =
-    same_window s w (little (drop (f + 5) xs)) (omega arith) ∙ ap (λ v. (v / 2 ^ s) % 536870912) (sym m) in
+    let low : (w / 2 ^ s) % 536870912 ≡ (little (drop f xs) / 2 ^ s) % 536870912 =
+    ap (λ v. (v / 2 ^ s) % 536870912) e
+    ∙ sym (same_window s five m (omega arith))
+    ∙ same_window s five (little (drop (f + 5) xs)) (omega arith)
+    ∙ ap (λ v. (v / 2 ^ s) % 536870912) (sym (little_five xs f)) in
     let b : drop p (bits_of xs) ≡ bits n (little (drop f xs) / 2 ^ s) =
     subst (λ q. drop q (bits_of xs) ≡ bits (8 * length xs - q) (little (drop f xs) / 2 ^ s)) whole (bits_at xs h f s) in
-    ap (λ v. take 29 (bits n v)) r ∙ take_low_mod 29 n (little (drop f xs) / 2 ^ s) ∙ ap (take 29) (sym b)
+    first_low 29 n ((w / 2 ^ s) % 536870912) ∙ ap (λ v. take 29 (bits n v)) low ∙ take_low_mod 29 n (little (drop f xs) / 2 ^ s) ∙ ap (take 29) (sym b)
 
 -- a sign and a symbol by the number of their bits
 sign_bits : sign ≡ bits 20 0x665E1

@@ -1,13 +1,10 @@
 -- The receptions in the bits of a bit line. Assumes nothing.
-use Rattle.std.specs.Prelude.{ℕ, zero, suc, ◌+◌, ◌*◌, Bool, true, false, cond, ◌&&◌, ◌||◌, List, [], ◌∷◌, ◌++◌, length, take, drop, ◌==◌, nat_lt, slice_index}
+use Rattle.std.specs.Prelude.{ℕ, zero, suc, ◌+◌, Bool, true, false, cond, ◌&&◌, ◌||◌, List, [], ◌∷◌, ◌++◌, length, take, drop, Some, None, Option, ◌==◌, nat_lt, slice_index}
 use Rattle.refusal.specs.declared.Cause.TheVariants.{Dry, Cut}
 use Rattle.radio.specs.declared.symbol.Symbol.{Symbol}
 use Rattle.radio.specs.declared.symbol.Symbol.TheVariants.{Clean, Spoiled}
 use Rattle.radio.specs.Reception.{Reception, whole, made_at, ending_in, before}
-use Rattle.lines.specs.declared.here.Here.{Here}
 use Rattle.radio.specs.Bits.{number, bits_of, frame}
-use Rattle.lines.specs.Standing.{Stands}
-use Rattle.radio.specs.Lines.{Heard, at_bottom, present_of, to_come}
 
 -- the sign: the frames of F0 and CC
 unfoldable pub sign : List ℕ
@@ -37,6 +34,10 @@ abbrev pub ends_it : Symbol → Bool
 ends_it (Clean v) = v == 0x33
 ends_it Spoiled = false
 
+-- a symbol, or none where it ends a reception whole
+abbrev pub unless_end : Symbol → Option Symbol
+unless_end s = cond (ends_it s) None (Some s)
+
 abbrev pub next_in : Symbol → Reception → Reception
 next_in s rest = cond (ends_it s) (ending_in whole) (before s rest)
 
@@ -58,13 +59,3 @@ receptions_from zero (b ∷ rest) = cond (sign_here (b ∷ rest)) (reception_fro
 
 abbrev pub receptions : List ℕ → List Reception
 receptions bytes = receptions_from 0 (bits_of bytes)
-
--- what a bit line means that stands at a bit place of its bytes and has given n symbols
-abbrev pub bits_heard : Bool → Bool → ℕ → ℕ → List ℕ → Heard
-bits_heard begun quiet n place bytes =
-    at_bottom (present_of begun (reception_from 0 n (drop place (bits_of bytes)))) (to_come quiet (receptions_from 0 (drop place (bits_of bytes))))
-
--- what here stands at the place of a line that has been opened
-abbrev pub BitsStand : Here → Bool → Bool → ℕ → ℕ → List ℕ → Type 0
-BitsStand here begun quiet n place bytes =
-    Stands here n (place + 10) (8 * length bytes) (bits_heard begun quiet n place bytes) (bits_heard begun quiet (n + 1) (place + 10) bytes)

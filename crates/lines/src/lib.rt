@@ -2,6 +2,7 @@
 #![tactic(auto)]
 
 pub mod bit_line;
-mod bits;
-mod here;
+pub mod byte_line;
 pub mod octet_line;
+mod recorded;
+mod window;

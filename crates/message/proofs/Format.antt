@@ -1,34 +1,23 @@
 -- The message of admissible fields is lawful, gives its fields back, and there is no other lawful message. Assumes nothing.
-use Rattle.std.proofs.Common.{◌≡◌, ℕ, ◌+◌, ◌-◌, ◌/◌, ◌%◌, ◌<◌, ◌≤◌, Bool, true, false, ◌&&◌, eqb, ltb, leb, List, [], ◌∷◌, ◌++◌, length, take, drop, Some, None, Decides, sum, Option, sym, refl, ap, ◌∙◌, subst, arith}
+use Rattle.std.proofs.Common.{◌≡◌, ℕ, ◌+◌, ◌-◌, ◌/◌, ◌%◌, ◌<◌, ◌≤◌, Bool, true, false, ◌&&◌, eqb, ltb, leb, List, [], ◌∷◌, ◌++◌, length, take, drop, Some, None, Decides, sum, Option, sym, refl, ap, ◌∙◌, subst, arith, rules}
 use Rattle.std.proofs.ByRecursion.{All-append, All-take, All-drop, All-get_or, sum_by_le, All-weaker, Decides-by_and}
-use Rattle.std.proofs.lemmas.List.{append_assoc, length-append, length-take-le, length-drop, get_or_at, get_or-append-add, take_at, drop_at, take-append-drop, take-take, drop-take, drop_more, drop_all}
-use Rattle.std.proofs.lemmas.Bool.{and_parts, and_from, leb-true, le-leb, eqb-true, eqb-false, ne_eqb, cond-true, cond-false}
+use Rattle.std.proofs.lemmas.List.{append_assoc, length-append, length-take-le, length-drop, take_at, drop_at, take-append-drop, take-take, drop-take}
+use Rattle.std.proofs.lemmas.Grind.{common_steps}
+use Rattle.std.proofs.lemmas.Bool.Decides.{nat_tests}
+use Rattle.std.proofs.lemmas.Bool.{and_from, le-leb, eqb-false, cond-true, cond-false}
 use Rattle.std.proofs.lemmas.Bool.Decides.{Decides-and, Decides-like, Decides-ltb, Decides-eqb}
 use Rattle.message.specs.Message.{Octets, word, octets_of_word, at, kind, head_length, destination, source, payload, sum_field, Addressed, Lawful, within, addressed, all_octets, lawful, address, head, front, message, admits, Admissible, Format}
 
 -- the last two octets of a list, and what stands in front of them
-module _ (f : List ℕ) (a b : ℕ) where
-  long : length (f ++ a ∷ b ∷ []) ≡ length f + 2
-  long = length-append f (a ∷ b ∷ [])
+sum_field_is : (f : List ℕ) (a b : ℕ) → sum_field (f ++ a ∷ b ∷ []) ≡ word a b
+sum_field_is f a b = grind (arith, common_steps)
 
-  sum_field_is : sum_field (f ++ a ∷ b ∷ []) ≡ word a b
-  sum_field_is =
-      let l = long in
-      let m = f ++ a ∷ b ∷ [] in
-      let i : length m - 2 ≡ length f = omega arith in
-      let j : length m - 1 ≡ length f + 1 = omega arith in
-      let x : at m (length m - 2) ≡ a = ap (at m) i ∙ get_or_at f a (b ∷ []) 0 (length f) refl in
-      let y : at m (length m - 1) ≡ b = ap (at m) j ∙ get_or-append-add f (a ∷ b ∷ []) 1 0 in
-      ap (λ h. word h (at m (length m - 1))) x ∙ ap (word a) y
-
-  in_front : take (length (f ++ a ∷ b ∷ []) - 2) (f ++ a ∷ b ∷ []) ≡ f
-  in_front = let l = long in take_at f (a ∷ b ∷ []) (length (f ++ a ∷ b ∷ []) - 2) (omega arith)
+in_front : (f : List ℕ) (a b : ℕ) → take (length (f ++ a ∷ b ∷ []) - 2) (f ++ a ∷ b ∷ []) ≡ f
+in_front f a b = grind (arith, common_steps)
 
 -- the sum of at most 72 octets stays below 65,536
 pub small_sum : (xs : List ℕ) → Octets xs → length xs ≤ 72 → sum xs ≤ 18360
-small_sum xs o l =
-    let m = sum_by_le (λ x. x) 255 xs (All-weaker (λ x. x < 256) (λ x. x ≤ 255) (λ x h. omega arith) xs o) in
-    omega arith
+small_sum xs o l = grind (arith, sum_by_le (λ x. x) 255 xs (All-weaker (λ x. x < 256) (λ x. x ≤ 255) (λ x h. omega arith) xs o))
 
 word_again : (w : ℕ) → word (w / 256) (w % 256) ≡ w
 word_again w = omega arith
@@ -52,44 +41,40 @@ record Headed (k : ℕ) (d : Option ℕ) (s n : ℕ) : Type 0 where
   has_destination : (rest : List ℕ) → destination (head k d s n ++ rest) ≡ d
 
 pub within_parts : (low high x : ℕ) → within low high x ≡ true → (low ≤ x) × (x ≤ high)
-within_parts low high x e = let p = and_parts (leb low x) (leb x high) e in (leb-true low x p.0, leb-true x high p.1)
+within_parts low high x e = grind (arith, nat_tests)
 
 pub within_from : (low high x : ℕ) → (low ≤ x) × (x ≤ high) → within low high x ≡ true
-within_from low high x h = and_from (leb low x) (leb x high) (le-leb low x h.0) (le-leb x high h.1)
+within_from low high x h = grind (arith, nat_tests)
 
 headed : (k : ℕ) (d : Option ℕ) (s n : ℕ) → n ≤ 66 → admits k d s ≡ true → Headed k d s n
 headed k None s n few e =
-    let p = and_parts (leb k 2) (within 1 0xfffe s) e in
-    let k2 : k ≤ 2 = leb-true k 2 p.0 in
-    let no : eqb k 3 ≡ false = ne_eqb k 3 (λ q. omega arith) in
-    let w = within_parts 1 0xfffe s p.1 in
+    let k2 : k ≤ 2 = grind (arith, nat_tests) in
+    let w : (1 ≤ s) × (s ≤ 0xfffe) = grind (arith, nat_tests) in
     record {
-      size = cond-false (eqb k 3) 6 4 no;
+      size = grind (arith, nat_tests);
       counts = refl;
       most = omega arith;
       octets = (omega arith, (omega arith, (omega arith, (omega arith, tt))));
       typed = omega arith;
       from = w;
       to = tt;
-      has_source = λ rest. cond-false (eqb k 3) _ _ no ∙ word_again s;
-      has_destination = λ rest. cond-false (eqb k 3) _ _ no;
+      has_source = λ rest. grind (arith, nat_tests);
+      has_destination = λ rest. grind (arith, nat_tests);
     }
 headed k (Some d) s n few e =
-    let p = and_parts (eqb k 3) (within 1 0xffff d && within 1 0xfffe s) e in
-    let q = and_parts (within 1 0xffff d) (within 1 0xfffe s) p.1 in
-    let k3 : k ≡ 3 = eqb-true k 3 p.0 in
-    let v = within_parts 1 0xffff d q.0 in
-    let w = within_parts 1 0xfffe s q.1 in
+    let k3 : k ≡ 3 = grind (arith, nat_tests) in
+    let v : (1 ≤ d) × (d ≤ 0xffff) = grind (arith, nat_tests) in
+    let w : (1 ≤ s) × (s ≤ 0xfffe) = grind (arith, nat_tests) in
     record {
-      size = cond-true (eqb k 3) 6 4 p.0;
+      size = grind (arith, nat_tests);
       counts = refl;
       most = omega arith;
       octets = (omega arith, (omega arith, (omega arith, (omega arith, (omega arith, (omega arith, tt))))));
       typed = omega arith;
       from = w;
       to = v;
-      has_source = λ rest. cond-true (eqb k 3) _ _ p.0 ∙ word_again s;
-      has_destination = λ rest. cond-true (eqb k 3) _ _ p.0 ∙ ap Some (word_again d);
+      has_source = λ rest. grind (arith, nat_tests);
+      has_destination = λ rest. grind (arith, nat_tests);
     }
 
 module _ (k : ℕ) (d : Option ℕ) (s : ℕ) (p : List ℕ) (fields : Admissible k d s p) where
@@ -104,7 +89,7 @@ module _ (k : ℕ) (d : Option ℕ) (s : ℕ) (p : List ℕ) (fields : Admissibl
 
   message_length : length (message k d s p) ≡ length (address d) + length p + 6
   unfolding total
-  message_length = let a = front_length in let b = long (front k d s p) (total / 256) (total % 256) in omega arith
+  message_length = let a = front_length in let b = length-append (front k d s p) (octets_of_word total) in omega arith
 
   front_octets : Octets (front k d s p)
   front_octets = All-append (λ x. x < 256) (head k d s (length p)) p top.octets fields.octets
@@ -166,20 +151,10 @@ record Own (m : List ℕ) (n : ℕ) : Type 0 where
   size : head_length (kind m) ≡ length (address (destination m)) + 4
 
 first_four : (m : List ℕ) → 4 ≤ length m → take 4 m ≡ at m 0 ∷ at m 1 ∷ at m 2 ∷ at m 3 ∷ []
-first_four [] l = absurd (omega arith)
-first_four (a ∷ []) l = absurd (omega arith)
-first_four (a ∷ b ∷ []) l = absurd (omega arith)
-first_four (a ∷ b ∷ c ∷ []) l = absurd (omega arith)
-first_four (a ∷ b ∷ c ∷ d ∷ m) l = refl
+first_four m l = grind (arith, common_steps)
 
-next_two : (m : List ℕ) → 6 ≤ length m → take 6 m ≡ at m 0 ∷ at m 1 ∷ at m 2 ∷ at m 3 ∷ at m 4 ∷ at m 5 ∷ []
-next_two [] l = absurd (omega arith)
-next_two (a ∷ []) l = absurd (omega arith)
-next_two (a ∷ b ∷ []) l = absurd (omega arith)
-next_two (a ∷ b ∷ c ∷ []) l = absurd (omega arith)
-next_two (a ∷ b ∷ c ∷ d ∷ []) l = absurd (omega arith)
-next_two (a ∷ b ∷ c ∷ d ∷ e ∷ []) l = absurd (omega arith)
-next_two (a ∷ b ∷ c ∷ d ∷ e ∷ f ∷ m) l = refl
+first_six : (m : List ℕ) → 6 ≤ length m → take 6 m ≡ at m 0 ∷ at m 1 ∷ at m 2 ∷ at m 3 ∷ at m 4 ∷ at m 5 ∷ []
+first_six m l = grind (arith, common_steps)
 
 module _ (m : List ℕ) (n : ℕ) (l : Lawful m) where
   octet_at : (i : ℕ) → i < length m → at m i < 256
@@ -217,7 +192,7 @@ module _ (m : List ℕ) (n : ℕ) (l : Lawful m) where
         header = subst (λ (x : Option ℕ). admits (kind m) x (source m) ≡ true) (sym d)
             (and_from (eqb (kind m) 3) (within 1 0xffff (word (at m 2) (at m 3)) && within 1 0xfffe (source m)) e
             (and_from (within 1 0xffff (word (at m 2) (at m 3))) (within 1 0xfffe (source m)) (within_from 1 0xffff (word (at m 2) (at m 3)) to) (within_from 1 0xfffe (source m) l.from)));
-        head_is = λ number. ap (λ i. take i m) h ∙ next_two m (omega arith) ∙ ap (λ x. x ∷ kind m ∷ at m 2 ∷ at m 3 ∷ at m 4 ∷ at m 5 ∷ []) number
+        head_is = λ number. ap (λ i. take i m) h ∙ first_six m (omega arith) ∙ ap (λ x. x ∷ kind m ∷ at m 2 ∷ at m 3 ∷ at m 4 ∷ at m 5 ∷ []) number
             ∙ ap (λ ys. (length (address (destination m)) + n + 6) ∷ kind m ∷ ys) (sym rest);
         size = h ∙ sym (ap (λ x. length (address x) + 4) d);
       }
@@ -255,12 +230,7 @@ module _ (m : List ℕ) (l : Lawful m) where
       ap (λ ys. ys ++ payload m) (sym (mine.head_is number_is)) ∙ take_both h j m ∙ ap (λ i. take i m) e
 
   last_two : drop (length m - 2) m ≡ at m (length m - 2) ∷ at m (length m - 1) ∷ []
-  last_two =
-      let few = l.least in
-      let i : length m - 2 + 1 ≡ length m - 1 = omega arith in
-      drop_more m (length m - 2) 0 (omega arith)
-      ∙ ap (λ k. at m (length m - 2) ∷ drop k m) i
-      ∙ ap (λ ys. at m (length m - 2) ∷ ys) (drop_more m (length m - 1) 0 (omega arith) ∙ ap (λ ys. at m (length m - 1) ∷ ys) (drop_all (length m - 1 + 1) m (omega arith)))
+  last_two = let few = l.least in grind (arith, common_steps)
 
   end_is : octets_of_word (sum (front (kind m) (destination m) (source m) (payload m))) ≡ drop (length m - 2) m
   end_is =
@@ -278,14 +248,14 @@ module _ (m : List ℕ) (l : Lawful m) where
   }
 
 decides_leb : (a b : ℕ) → Decides (leb a b) (a ≤ b)
-decides_leb a b = (leb-true a b, le-leb a b)
+decides_leb a b = search rules
 
 decides_within : (low high x : ℕ) → Decides (within low high x) ((low ≤ x) × (x ≤ high))
-decides_within low high x = (within_parts low high x, within_from low high x)
+decides_within low high x = search rules
 
 pub decides_addressed : (d : Option ℕ) → Decides (addressed d) (Addressed d)
 decides_addressed None = (λ _. tt, λ _. refl)
-decides_addressed (Some d) = decides_within 1 0xffff d
+decides_addressed (Some d) = search rules
 
 pub lawful_tested : (m : List ℕ) → Decides (lawful m) (Lawful m)
 lawful_tested m =

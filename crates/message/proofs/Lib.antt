@@ -1,2 +1,3 @@
+pub mod Checksums
 pub mod Format
 pub mod Sealing

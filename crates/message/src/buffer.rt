@@ -1,6 +1,7 @@
-ghost use Rattle.std.specs.Prelude.{◌≡◌, ◌+◌, ◌≤◌, false, [], ◌++◌, length, take, if◌then◌else◌, nat_le};
+ghost use Rattle.std.specs.Prelude.{◌≡◌, ◌+◌, ◌≤◌, [], ◌++◌, length};
 
 /// Up to `N` octets.
+// A library's vector is not `Copy`, as headers and sealed messages are, or can fail for memory.
 #[derive(Clone, Copy)]
 pub(crate) struct Buffer<const N: usize> {
     octets: [u8; N],
@@ -10,9 +11,10 @@ pub(crate) struct Buffer<const N: usize> {
 }
 
 impl<const N: usize> Buffer<N> {
+    ghost use Rattle.message.specs.Parts.{items};
+
     pub(crate) fn empty() -> Self
-        ensures holds { take result.count result.octets ≡ [] }
-        ensures count { result.count ≡ 0 }
+        ensures { items result ≡ [] }
     {
         Buffer {
             octets: [0; N],
@@ -21,26 +23,25 @@ impl<const N: usize> Buffer<N> {
     }
 
     pub(crate) fn as_slice(&self) -> &[u8]
-        ensures { result.now ≡ take self.now.count self.now.octets }
+        ensures { result.now ≡ items self.now }
     {
-        let all = &self.octets[..];
-        &all[0..self.count]
+        &self.octets[..self.count]
     }
 
-    /// Adds all of `more`, or nothing where it does not fit.
-    pub(crate) fn append(&mut self, more: &[u8]) -> bool
-        ensures fits { result ≡ nat_le (self.old.count + length more.now) N }
-        ensures same { result ≡ false → self.new ≡ self.old }
-        ensures holds { take self.new.count self.new.octets ≡ (if result then take self.old.count self.old.octets ++ more.now else take self.old.count self.old.octets) }
+    /// How many octets more it takes.
+    pub(crate) fn room(&self) -> usize
+        ensures { length (items self.now) + result ≡ N }
     {
-        if more.len() > N - self.count {
-            return false;
-        }
-        let at = self.count;
-        for (i, x) in more.iter().enumerate() {
-            self.octets[at + i] = *x;
-        }
-        self.count = at + more.len();
-        true
+        N - self.count
+    }
+
+    pub(crate) fn append(&mut self, more: &[u8])
+        requires { length (items self.old) + length more.now ≤ N }
+        ensures { items self.new ≡ items self.old ++ more.now }
+    {
+        let end = self.count + more.len();
+        let all = &mut self.octets[..];
+        all[self.count..end].copy_from_slice(more);
+        self.count = end;
     }
 }

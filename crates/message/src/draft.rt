@@ -1,7 +1,8 @@
-ghost use Rattle.std.specs.Prelude.{◌≡◌, ◌+◌, ◌<◌, ◌≤◌, true, false, [], ◌++◌, length, MatchResult};
+ghost use Rattle.std.specs.Prelude.{◌≡◌, ◌+◌, ◌<◌, ◌≤◌, true, [], ◌++◌, length, MatchResult};
 ghost use Rattle.refusal.specs.declared.Refusal.TheVariants.{Long};
-ghost use Rattle.message.specs.Message.{Format, lawful, message};
+ghost use Rattle.message.specs.Message.{Format, lawful};
 ghost use Rattle.message.specs.Parts.{items};
+ghost use Rattle.message.specs.Held.{header_of, payload_of, message_of, octets_of};
 
 use crate::buffer::Buffer;
 use crate::header::Header;
@@ -18,8 +19,8 @@ pub struct Draft {
 
 impl Draft {
     pub fn new(header: Header) -> Draft
-        ensures header { result.header ≡ header }
-        ensures empty { items result.payload ≡ [] }
+        ensures header { header_of result ≡ header }
+        ensures empty { payload_of result ≡ [] }
     {
         Draft {
             header,
@@ -29,27 +30,29 @@ impl Draft {
 
     /// Adds all of the octets to the payload, or none of them (`Long`) where it would pass 66.
     pub fn add(&mut self, octets: &[u8]) -> Result<(), Refusal>
-        ensures header { self.new.header ≡ self.old.header }
-        ensures cases { MatchResult result (λ _. (self.old.payload.count + length octets.now ≤ 66) × (items self.new.payload ≡ items self.old.payload ++ octets.now)) (λ e. (66 < self.old.payload.count + length octets.now) × (e ≡ Long) × (self.new ≡ self.old)) }
+        ensures header { header_of self.new ≡ header_of self.old }
+        ensures cases { MatchResult result
+            (λ _. (length (payload_of self.old) + length octets.now ≤ 66) × (payload_of self.new ≡ payload_of self.old ++ octets.now))
+            (λ e. (66 < length (payload_of self.old) + length octets.now) × (e ≡ Long) × (self.new ≡ self.old)) }
     {
-        if self.payload.append(octets) {
-            Ok(())
-        } else {
-            Err(Refusal::Long)
+        if octets.len() > self.payload.room() {
+            return Err(Refusal::Long);
         }
+        self.payload.append(octets);
+        Ok(())
     }
 
     /// The message of the header and the payload, with Number and Sum to match; it is lawful, as the format's
     /// theorem says of every message of admissible fields, and there are no other lawful messages.
     pub fn seal(self) -> Sealed
-        ensures made { items result.octets ≡ message self.header.kind self.header.destination self.header.source (items self.payload) }
+        ensures made { octets_of result ≡ message_of self }
         ensures format { Format }
     {
         Sealed::of(self.octets())
     }
 
     fn octets(self) -> Buffer<74>
-        ensures made { items result ≡ message self.header.kind self.header.destination self.header.source (items self.payload) }
+        ensures made { items result ≡ message_of self }
         ensures lawful { lawful (items result) ≡ true }
         ensures format { Format }
     {

@@ -7,6 +7,7 @@ use crate::buffer::Buffer;
 use refusal::Refusal;
 
 /// A Source, a type and, for type 3 only, a Destination, checked together.
+// The type is a number, since `new` takes every number and the format tells types 0 to 2 apart by nothing else.
 #[derive(Clone, Copy)]
 pub struct Header {
     kind: u8,
@@ -16,24 +17,18 @@ pub struct Header {
 }
 
 impl Header {
+    ghost use Rattle.message.specs.Held.{IsHeaderOf};
+
     /// `Argument` where the three do not go together.
     pub fn new(kind: u8, destination: Option<u16>, source: u16) -> Result<Header, Refusal>
-        ensures { MatchResult result (λ h. (admits kind destination source ≡ true) × (h.kind ≡ kind) × (h.destination ≡ destination) × (h.source ≡ source)) (λ e. (admits kind destination source ≡ false) × (e ≡ Argument)) }
+        ensures { MatchResult result (IsHeaderOf kind destination source) (λ e. (admits kind destination source ≡ false) × (e ≡ Argument)) }
     {
-        if source == 0 || source == 0xffff {
+        let kind_fits = match destination {
+            None => kind <= 2,
+            Some(to) => kind == 3 && to != 0,
+        };
+        if !kind_fits || matches!(source, 0 | 0xffff) {
             return Err(Refusal::Argument);
-        }
-        match destination {
-            None => {
-                if kind > 2 {
-                    return Err(Refusal::Argument);
-                }
-            }
-            Some(d) => {
-                if kind != 3 || d == 0 {
-                    return Err(Refusal::Argument);
-                }
-            }
         }
         Ok(Header {
             kind,
@@ -50,9 +45,7 @@ impl Header {
         let mut octets = Buffer::empty();
         let [high, low] = self.source.to_be_bytes();
         match self.destination {
-            None => {
-                octets.append(&[(length + 6) as u8, self.kind, high, low]);
-            }
+            None => octets.append(&[(length + 6) as u8, self.kind, high, low]),
             Some(to) => {
                 let [to_high, to_low] = to.to_be_bytes();
                 octets.append(&[(length + 8) as u8, self.kind, to_high, to_low, high, low]);

@@ -12,6 +12,8 @@ pub struct Sealed {
 }
 
 impl Sealed {
+    ghost use Rattle.message.specs.Held.{octets_of};
+
     pub(crate) fn of(octets: Buffer<74>) -> Sealed
         requires { lawful (items octets) ≡ true }
         ensures { result.octets ≡ octets }
@@ -20,24 +22,18 @@ impl Sealed {
     }
 
     /// The octets of the message.
+    #[tactic(auto, using(crate::proofs::Sealing::sealed_lawful))]
     pub fn octets(&self) -> &[u8]
-        ensures held { result.now ≡ items self.now.octets }
+        ensures held { result.now ≡ octets_of self.now }
         ensures lawful { Lawful result.now }
     {
-        self.message()
+        self.octets.as_slice()
     }
 
     /// How many octets it has.
     pub fn length(&self) -> usize
-        ensures { result ≡ length (items self.now.octets) }
+        ensures { result ≡ length (octets_of self.now) }
     {
         self.octets().len()
-    }
-
-    fn message(&self) -> &[u8]
-        ensures held { result.now ≡ items self.now.octets }
-        ensures lawful { Lawful result.now }
-    {
-        self.octets.as_slice()
     }
 }

@@ -1,3 +1,4 @@
+pub mod Outcomes
 pub mod Sending
 pub mod Runs
 pub mod Law

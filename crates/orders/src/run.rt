@@ -3,7 +3,7 @@ ghost use Rattle.station.specs.Judging.{reading, line_left};
 ghost use Rattle.orders.specs.Runs.{Stand, read_outcome, Step, count_of, Ran};
 ghost use Rattle.orders.specs.Law.{Radio};
 
-use crate::order::{Order, Outcome};
+use crate::order::{Done, Order, Outcome};
 use crate::send::send;
 use radio::line::Line;
 use radio::outlet::Outlet;
@@ -25,8 +25,9 @@ pub fn run<L: Line, O: Outlet>(
 {
     let mut station = Station::new(own)?;
     let count = orders.len().min(outcomes.len());
-    for i in 0..count {
-        outcomes[i] = play(&mut station, line, outlet, &orders[i]);
+    // Not a zip with `outcomes.iter_mut()`: nothing is known of what was written through a zip.
+    for (i, order) in orders[0..count].iter().enumerate() {
+        outcomes[i] = play(&mut station, line, outlet, order);
     }
     Ok(count)
 }
@@ -44,21 +45,21 @@ fn play<L: Line, O: Outlet>(
     match order {
         Order::Strength(limit) => {
             station.set_strength(*limit);
-            Outcome::Set
+            Ok(Done::Set)
         }
         Order::Identity(on) => {
             station.set_identity(*on);
-            Outcome::Set
+            Ok(Done::Set)
         }
-        Order::Mute(kind, on) => match station.mute(*kind, *on) {
-            Ok(()) => Outcome::Set,
-            Err(refusal) => Outcome::Refused(refusal),
-        },
+        Order::Mute(kind, on) => {
+            station.mute(*kind, *on)?;
+            Ok(Done::Set)
+        }
         Order::Read(strength, room) => read_into(station, line, *strength, *room),
-        Order::Send(message, preamble) => match send(outlet, message, *preamble) {
-            Ok(()) => Outcome::Sent,
-            Err(refusal) => Outcome::Refused(refusal),
-        },
+        Order::Send(message, preamble) => {
+            send(outlet, message, *preamble)?;
+            Ok(Done::Sent)
+        }
     }
 }
 
@@ -69,8 +70,6 @@ fn read_into<L: Line>(station: &Station, line: &mut L, strength: u8, room: usize
 {
     let mut payload = [0; 66];
     let size = room.min(66);
-    match station.read(line, strength, &mut payload[0..size]) {
-        Ok(facts) => Outcome::Message(facts, payload),
-        Err(refusal) => Outcome::Refused(refusal),
-    }
+    let facts = station.read(line, strength, &mut payload[0..size])?;
+    Ok(Done::Message(facts, payload))
 }

@@ -1,8 +1,10 @@
-ghost use Rattle.std.specs.Prelude.{◌≡◌, ◌-◌, ◌≤◌, ◌++◌, length, replicate};
+ghost use Rattle.std.specs.Prelude.{◌≡◌, ◌≤◌};
 ghost use Rattle.radio.specs.Outlets.{answer, Leaves};
 ghost use Rattle.message.specs.Parts.{items};
+ghost use Rattle.station.specs.Nearness.{padded};
 ghost use Rattle.orders.specs.Sending.{send_refusal, Sent};
 
+use arrayvec::ArrayVec;
 use message::sealed::Sealed;
 use radio::outlet::Outlet;
 use radio::write::write_message;
@@ -18,17 +20,18 @@ pub fn send<O: Outlet>(outlet: &mut O, message: &Sealed, preamble: u16) -> Resul
     if unit > 24 {
         return Err(Refusal::Unit);
     }
-    let octets = zeros_behind(message.octets());
-    let count = padded_length(unit, message.length() as u8);
-    write_message(outlet, preamble, &octets[0..count])
+    let octets = pad(message, unit);
+    write_message(outlet, preamble, octets.as_slice())
 }
 
-/// The octets of a message and then zeros.
-fn zeros_behind(message: &[u8]) -> [u8; 96]
-    requires { length message.now ≤ 74 }
-    ensures { result ≡ message.now ++ replicate (96 - length message.now) 0 }
+/// The octets of a message, and zeros behind them up to a multiple of the unit.
+fn pad(message: &Sealed, unit: u16) -> ArrayVec<u8, 96>
+    requires { (1 ≤ unit) × (unit ≤ 24) }
+    ensures { result.items ≡ padded unit (items message.now.octets) }
 {
     let mut octets = [0; 96];
-    octets[0..message.len()].copy_from_slice(message);
+    octets[0..message.length()].copy_from_slice(message.octets());
+    let mut octets = ArrayVec::from(octets);
+    octets.truncate(padded_length(unit, message.length() as u8));
     octets
 }

@@ -1,17 +1,15 @@
 -- Bits, frames, and what writing a frame does to what the bit outlet means. Assumes nothing.
-use Rattle.std.proofs.Common.{◌≡◌, ℕ, zero, suc, ◌+◌, ◌-◌, ◌*◌, ◌/◌, ◌%◌, ◌^◌, ◌<◌, ◌≤◌, List, [], ◌∷◌, ◌++◌, length, get_or, take, drop, set, replicate, sym, refl, ap, ◌∙◌, append_assoc, mod-lt, mul_assoc, mul_comm, zero-add, div-one, arith, lit<}
+use Rattle.std.proofs.Common.{◌≡◌, ℕ, zero, suc, ◌+◌, ◌-◌, ◌*◌, ◌/◌, ◌%◌, ◌^◌, ◌<◌, ◌≤◌, List, [], ◌∷◌, ◌++◌, length, get_or, take, drop, set, sym, refl, ap, ◌∙◌, append_assoc, mod-lt, mul_assoc, mul_comm, zero-add, div-one, arith}
 use native.Mathlib.Nat.{mod-add-div, pow-succ'}
 use Rattle.std.proofs.lemmas.Nat.{pow_pos, shr-shr, shr_high}
-use Rattle.std.proofs.lemmas.List.{append-nil, length-append, length-take-le, length-drop, length-replicate, take_at, drop_at, take-append-le, drop-append-le, drop-drop, drop_more, set_at, take-append-drop, nil_from_length, replicate_more}
-use Rattle.std.specs.List.{flat_map}
+use Rattle.std.proofs.lemmas.List.{length-append, length-take-le, take_at, drop_at, drop-append-le, drop-drop, drop_more, set_at, take-append-drop}
 use Rattle.radio.specs.Layer.{Octets}
-use Rattle.radio.specs.Outlets.{start}
 use Rattle.outlets.specs.Bottoms.{written_at}
 use Rattle.radio.specs.Bits.{bits, number, bits_of, frame}
-use Rattle.outlets.specs.Frames.{unframed, Framed, BitsPinOctets}
+use Rattle.outlets.specs.Frames.{BitsPinOctets}
 use Rattle.radio.proofs.LowBits.{take_low, drop_low, length_bits}
-use Rattle.radio.proofs.States.{joined_append}
-use Rattle.outlets.proofs.Cells.{Lays, take_written, front_length, written_further}
+use Rattle.std.proofs.lemmas.Grind.{flat_map-append}
+use Rattle.outlets.specs.PlacementLaws.{octet_back}
 
 pub bits_length : (n x : ℕ) → length (bits n x) ≡ n
 bits_length zero x = refl
@@ -75,6 +73,21 @@ module _ (word s x : ℕ) (l : s ≤ 6) (h : x < 256) where
       ∙ ap (λ ys. take s (bits 16 word) ++ (ys ++ bits (6 - s) hi)) (frame_bits x h)
       ∙ ap (λ ys. take s (bits 16 word) ++ (frame x ++ ys)) high
 
+-- a fact for each place of a frame in two bytes
+up_to_six : (P : ℕ → Type 0) → P 0 → P 1 → P 2 → P 3 → P 4 → P 5 → P 6 → (s : ℕ) → s ≤ 6 → P s
+up_to_six P a b c d e f g zero l = a
+up_to_six P a b c d e f g (suc zero) l = b
+up_to_six P a b c d e f g (suc (suc zero)) l = c
+up_to_six P a b c d e f g (suc (suc (suc zero))) l = d
+up_to_six P a b c d e f g (suc (suc (suc (suc zero)))) l = e
+up_to_six P a b c d e f g (suc (suc (suc (suc (suc zero))))) l = f
+up_to_six P a b c d e f g (suc (suc (suc (suc (suc (suc zero)))))) l = g
+up_to_six P a b c d e f g (suc (suc (suc (suc (suc (suc (suc s))))))) l = absurd (omega arith)
+
+pub framed_fits : (word f : ℕ) → word < 65536 → f < 1024 → (s : ℕ) → s ≤ 6 → word % 2 ^ s + 2 ^ s * (f + 1024 * (word / 2 ^ s / 1024)) < 65536
+framed_fits word f h k =
+    up_to_six (λ s. word % 2 ^ s + 2 ^ s * (f + 1024 * (word / 2 ^ s / 1024)) < 65536) (omega arith) (omega arith) (omega arith) (omega arith) (omega arith) (omega arith) (omega arith)
+
 -- a part written inside a part
 pub spliced : (F W R fr : List ℕ) (n s k : ℕ) → length F ≡ n → k ≡ s + length fr → k ≤ length W
     → F ++ ((take s W ++ (fr ++ drop k W)) ++ R) ≡ written_at (F ++ (W ++ R)) (n + s) fr
@@ -98,22 +111,28 @@ spliced F W R fr n s k l at h =
         let q : n + s + length fr ≡ n + k = omega arith in
         sym (ap (λ j. drop j (F ++ (W ++ R))) q ∙ sym (drop-drop k n (F ++ (W ++ R))) ∙ ap (drop k) (drop_at F (W ++ R) n l) ∙ drop-append-le k W R h)
 
+pub bits_word : (x y : ℕ) → x < 256 → bits 16 (x + 256 * y) ≡ bits 8 x ++ bits 8 y
+bits_word x y h = bits_join 8 8 x y h
+
 -- two bytes written
-module _ (ms : List ℕ) (q x y : ℕ) (fits : q + 1 < length ms) (xis : x ≡ get_or ms q 0) (yis : y ≡ get_or ms (q + 1) 0) where
+module _ (ms : List ℕ) (q : ℕ) (fits : q + 1 < length ms) where
   abbrev P : List ℕ
   P = take q ms
 
   abbrev Q : List ℕ
   Q = drop (q + 1 + 1) ms
 
+  abbrev x : ℕ
+  x = get_or ms q 0
+
+  abbrev y : ℕ
+  y = get_or ms (q + 1) 0
+
   PLength : length P ≡ q
   PLength = length-take-le q ms (omega arith)
 
   ms_is : ms ≡ P ++ (x ∷ y ∷ Q)
-  ms_is =
-      sym (take-append-drop q ms)
-      ∙ ap (λ ys. P ++ ys) (drop_more ms q 0 (omega arith) ∙ ap (λ ys. get_or ms q 0 ∷ ys) (drop_more ms (q + 1) 0 fits))
-      ∙ ap (λ a. P ++ (a ∷ get_or ms (q + 1) 0 ∷ Q)) (sym xis) ∙ ap (λ b. P ++ (x ∷ b ∷ Q)) (sym yis)
+  ms_is = sym (take-append-drop q ms) ∙ ap (λ ys. P ++ ys) (drop_more ms q 0 (omega arith) ∙ ap (λ ys. x ∷ ys) (drop_more ms (q + 1) 0 fits))
 
   set_two : (a b : ℕ) → set (set ms q a) (q + 1) b ≡ P ++ (a ∷ b ∷ Q)
   set_two a b =
@@ -124,17 +143,17 @@ module _ (ms : List ℕ) (q x y : ℕ) (fits : q + 1 < length ms) (xis : x ≡ g
       ∙ set_at (P ++ (a ∷ [])) y Q b (q + 1) (omega arith) ∙ append_assoc P (a ∷ []) (b ∷ Q)
 
   bits_two : (a b : ℕ) → bits_of (P ++ (a ∷ b ∷ Q)) ≡ bits_of P ++ ((bits 8 a ++ bits 8 b) ++ bits_of Q)
-  bits_two a b = joined_append (bits 8) P (a ∷ b ∷ Q) ∙ ap (λ ys. bits_of P ++ ys) (sym (append_assoc (bits 8 a) (bits 8 b) (bits_of Q)))
+  bits_two a b = flat_map-append (bits 8) P (a ∷ b ∷ Q) ∙ ap (λ ys. bits_of P ++ ys) (sym (append_assoc (bits 8 a) (bits 8 b) (bits_of Q)))
 
-  pub two_laid : (s laid : ℕ) (fr : List ℕ) → s ≤ 6 → length fr ≡ 10 → x < 256 → bits 16 laid ≡ take s (bits 16 (x + 256 * y)) ++ (fr ++ drop (s + 10) (bits 16 (x + 256 * y)))
+  pub two_laid : (word laid s : ℕ) (fr : List ℕ) → s ≤ 6 → length fr ≡ 10 → bits 16 word ≡ bits 8 x ++ bits 8 y → bits 16 laid ≡ take s (bits 16 word) ++ (fr ++ drop (s + 10) (bits 16 word))
       → bits_of (set (set ms q (laid % 256)) (q + 1) (laid / 256 % 256)) ≡ written_at (bits_of ms) (8 * q + s) fr
-  two_laid s laid fr l ten small e =
-      let W = bits 16 (x + 256 * y) in
-      let w : length W ≡ 16 = bits_length 16 (x + 256 * y) in
+  two_laid word laid s fr l ten was e =
+      let W = bits 16 word in
+      let w : length W ≡ 16 = bits_length 16 word in
       let n : length (bits_of P) ≡ 8 * q = length_bits P ∙ ap (λ k. 8 * k) PLength in
       let lo : bits 8 (laid % 256) ≡ bits 8 laid = sym (ap (bits 8) (sym (mod-add-div laid 256)) ∙ bits_low 8 (laid % 256) (laid / 256)) in
       let up : bits 8 (laid / 256 % 256) ≡ bits 8 (laid / 256) = sym (ap (bits 8) (sym (mod-add-div (laid / 256) 256)) ∙ bits_low 8 (laid / 256 % 256) (laid / 256 / 256)) in
-      let old : bits_of P ++ (W ++ bits_of Q) ≡ bits_of ms = ap (λ ys. bits_of P ++ (ys ++ bits_of Q)) (bits_join 8 8 x y small) ∙ sym (bits_two x y) ∙ ap bits_of (sym ms_is) in
+      let old : bits_of P ++ (W ++ bits_of Q) ≡ bits_of ms = ap (λ ys. bits_of P ++ (ys ++ bits_of Q)) was ∙ sym (bits_two x y) ∙ ap bits_of (sym ms_is) in
       ap bits_of (set_two (laid % 256) (laid / 256 % 256))
       ∙ bits_two (laid % 256) (laid / 256 % 256)
       ∙ ap (λ ys. bits_of P ++ ((ys ++ bits 8 (laid / 256 % 256)) ++ bits_of Q)) lo
@@ -142,77 +161,6 @@ module _ (ms : List ℕ) (q x y : ℕ) (fits : q + 1 < length ms) (xis : x ≡ g
       ∙ ap (λ ys. bits_of P ++ (ys ++ bits_of Q)) (sym (bits_split 8 8 laid) ∙ e)
       ∙ spliced (bits_of P) W (bits_of Q) fr (8 * q) s (s + 10) n (omega arith) (omega arith)
       ∙ ap (λ ys. written_at ys (8 * q + s) fr) old
-
--- frames read back
-pub frames_length : (xs : List ℕ) → length (flat_map frame xs) ≡ 10 * length xs
-frames_length [] = refl
-frames_length (x ∷ xs) = let i = frames_length xs in omega arith
-
-pub unframed_more : (n m : ℕ) (zs ys : List ℕ) → length zs ≡ 10 * n → unframed (n + m) (zs ++ ys) ≡ unframed n zs ++ unframed m ys
-unframed_more zero m zs ys e = ap (λ k. unframed k (zs ++ ys)) (zero-add m) ∙ ap (λ z. unframed m (z ++ ys)) (nil_from_length zs e)
-unframed_more (suc n) m zs ys e =
-    let k : suc n + m ≡ suc (n + m) = omega arith in
-    let d : length (drop 1 zs) ≡ 10 * n + 9 = length-drop 1 zs ∙ omega arith in
-    let t : take 8 (drop 1 (zs ++ ys)) ≡ take 8 (drop 1 zs) = ap (take 8) (drop-append-le 1 zs ys (omega arith)) ∙ take-append-le 8 (drop 1 zs) ys (omega arith) in
-    let r : drop 10 (zs ++ ys) ≡ drop 10 zs ++ ys = drop-append-le 10 zs ys (omega arith) in
-    ap (λ j. unframed j (zs ++ ys)) k
-    ∙ ap (λ b. number b ∷ unframed (n + m) (drop 10 (zs ++ ys))) t
-    ∙ ap (λ b. number (take 8 (drop 1 zs)) ∷ unframed (n + m) b) r
-    ∙ ap (λ b. number (take 8 (drop 1 zs)) ∷ b) (unframed_more n m (drop 10 zs) ys (length-drop 10 zs ∙ omega arith))
-
-pub octet_back : (x : ℕ) → x < 256 → number (bits 8 x) ≡ x
-octet_back x h = omega arith
-
-pub unframed_frames : (xs ys : List ℕ) → Octets xs → unframed (length xs) (flat_map frame xs ++ ys) ≡ xs
-unframed_frames [] ys o = refl
-unframed_frames (x ∷ xs) ys o =
-    ap (λ y. y ∷ unframed (length xs) (flat_map frame xs ++ ys)) (octet_back x o.0) ∙ ap (λ zs. x ∷ zs) (unframed_frames xs ys o.1)
-
--- frames written behind those that are whole
-module _ (memory memory' : List ℕ) (used : ℕ) (xs : List ℕ) (k : ℕ) (at : k ≡ used + length xs) (fits : 10 * k ≤ 8 * length memory) (framed : Framed memory used) (octets : Octets xs)
-    (laid : bits_of memory' ≡ written_at (bits_of memory) (10 * used) (flat_map frame xs)) where
-  abbrev B : List ℕ
-  B = bits_of memory
-
-  abbrev J : List ℕ
-  J = flat_map frame xs
-
-  ten : 10 * k ≡ 10 * used + length J
-  ten = let j = frames_length xs in omega arith
-
-  enough : 10 * k ≤ length B
-  enough = let b = length_bits memory in omega arith
-
-  channel_is : unframed k (bits_of memory') ≡ unframed used B ++ xs
-  channel_is =
-      let e = enough in
-      let t : length (take (10 * used) B) ≡ 10 * used = length-take-le (10 * used) B (omega arith) in
-      let same : unframed used (take (10 * used) B) ≡ unframed used B =
-      sym (ap (λ j. unframed j B) (omega arith) ∙ ap (unframed (used + 0)) (sym (take-append-drop (10 * used) B)) ∙ unframed_more used 0 (take (10 * used) B) (drop (10 * used) B) t ∙ append-nil (unframed used (take (10 * used) B))) in
-      ap (unframed k) laid ∙ ap (λ j. unframed j (written_at B (10 * used) J)) at
-      ∙ unframed_more used (length xs) (take (10 * used) B) (J ++ drop (10 * used + length J) B) t
-      ∙ ap (λ ys. ys ++ unframed (length xs) (J ++ drop (10 * used + length J) B)) same
-      ∙ ap (λ ys. unframed used B ++ ys) (unframed_frames xs (drop (10 * used + length J) B) octets)
-
-  frames_are : flat_map frame (unframed used B ++ xs) ≡ take (10 * used) B ++ J
-  frames_are = joined_append frame (unframed used B) xs ∙ ap (λ ys. ys ++ J) framed
-
-  pub frames_lay : Lays frame (unframed used B) B xs (unframed k (bits_of memory')) (bits_of memory')
-  frames_lay = record {
-    channel_is = channel_is;
-    memory_is =
-        let l = front_length B (10 * used) J (10 * k) ten enough in
-        laid ∙ sym (append_assoc (take (10 * used) B) J (drop (10 * used + length J) B))
-        ∙ ap (λ j. (take (10 * used) B ++ J) ++ drop j B) (sym (l ∙ ten))
-        ∙ ap (λ ys. ys ++ drop (length ys) B) (sym frames_are);
-  }
-
-  pub still_framed : Framed memory' k
-  still_framed = ap (flat_map frame) channel_is ∙ frames_are ∙ sym (ap (take (10 * k)) laid ∙ take_written B (10 * used) J (10 * k) ten enough)
-
-pub octets_start : (p : ℕ) → Octets (start p)
-octets_start zero = (lit< tt, tt)
-octets_start (suc p) = (lit< tt, octets_start p)
 
 -- octets with the same bits
 module _ where
@@ -232,31 +180,3 @@ module _ where
       let c = ap length e in
       let n : length xs ≡ length ys = omega arith in
       sym (bytes_back xs o) ∙ ap (λ k. bytes_in k (bits_of xs)) n ∙ ap (bytes_in (length ys)) e ∙ bytes_back ys p
-
--- a frame laid behind those of the preamble
-module _ (memory now next : List ℕ) (n i x : ℕ) (e : bits_of now ≡ written_at (bits_of memory) (10 * n) (flat_map frame (replicate i 240))) (fits : 10 * (n + i) ≤ 8 * length memory)
-    (laid : bits_of next ≡ written_at (bits_of now) (10 * (n + i)) (frame x)) where
-  pub laid_behind : bits_of next ≡ written_at (bits_of memory) (10 * n) (flat_map frame (replicate i 240 ++ (x ∷ [])))
-  laid_behind =
-      let l : length (replicate {A = ℕ} i 240) ≡ i = length-replicate i 240 in
-      let f = frames_length (replicate i 240) in
-      let b = length_bits memory in
-      laid ∙ ap (λ zs. written_at zs (10 * (n + i)) (frame x)) e
-      ∙ written_further (bits_of memory) (10 * n) (flat_map frame (replicate i 240)) (10 * (n + i)) (omega arith) (omega arith) (frame x)
-      ∙ ap (λ zs. written_at (bits_of memory) (10 * n) (flat_map frame (replicate i 240) ++ zs)) (sym (append-nil (frame x)))
-      ∙ ap (written_at (bits_of memory) (10 * n)) (sym (joined_append frame (replicate i 240) (x ∷ [])))
-
-  pub more_laid : x ≡ 240 → bits_of next ≡ written_at (bits_of memory) (10 * n) (flat_map frame (replicate (i + 1) 240))
-  more_laid is = laid_behind ∙ ap (λ y. written_at (bits_of memory) (10 * n) (flat_map frame (replicate i 240 ++ (y ∷ [])))) is ∙ ap (λ ys. written_at (bits_of memory) (10 * n) (flat_map frame ys)) (replicate_more i 240)
-
--- one frame
-module _ (memory memory' : List ℕ) (used x : ℕ) (fits : 10 * (used + 1) ≤ 8 * length memory) (framed : Framed memory used) (small : x < 256)
-    (laid : bits_of memory' ≡ written_at (bits_of memory) (10 * used) (frame x)) where
-  one_laid : bits_of memory' ≡ written_at (bits_of memory) (10 * used) (flat_map frame (x ∷ []))
-  one_laid = laid ∙ ap (written_at (bits_of memory) (10 * used)) (sym (append-nil (frame x)))
-
-  pub one_lays : Lays frame (unframed used (bits_of memory)) (bits_of memory) (x ∷ []) (unframed (used + 1) (bits_of memory')) (bits_of memory')
-  one_lays = frames_lay memory memory' used (x ∷ []) (used + 1) refl fits framed (small, tt) one_laid
-
-  pub one_framed : Framed memory' (used + 1)
-  one_framed = still_framed memory memory' used (x ∷ []) (used + 1) refl fits framed (small, tt) one_laid

@@ -1,11 +1,13 @@
 -- What an outlet over a memory means, by its memory. Assumes nothing.
-use Rattle.std.specs.Prelude.{◌≡◌, ℕ, zero, suc, ◌+◌, ◌≤◌, List, [], ◌∷◌, ◌++◌, length, take, drop, refl}
+use Rattle.std.specs.Prelude.{◌≡◌, ℕ, zero, suc, ◌+◌, ◌*◌, ◌≤◌, List, [], ◌∷◌, ◌++◌, length, take, drop, refl}
 use Rattle.std.proofs.Common.{sym, ap, ◌∙◌, lit≤}
-use Rattle.std.proofs.lemmas.List.{append-nil}
+use Rattle.std.proofs.lemmas.List.{append-nil, map-id}
+use Rattle.std.proofs.lemmas.List.Concat.{flat_map_single}
 use Rattle.std.specs.List.{flat_map}
 use Rattle.radio.specs.declared.turn.Turn.{Turn}
 use Rattle.radio.specs.declared.turn.Turn.TheVariants.{Idle, Owing, Stuck}
 use Rattle.radio.specs.Outlets.{State, Sound, laid_over}
+use Rattle.outlets.specs.Placement.{Placement}
 
 -- an outlet with no layer under it: what is put goes to the channel as it is
 abbrev pub bottom : (ℕ → List ℕ) → List ℕ → List ℕ → Turn → ℕ → State
@@ -38,12 +40,16 @@ written_at memory i xs = take i memory ++ (xs ++ drop (i + length xs) memory)
 abbrev pub one_cell : ℕ → List ℕ
 one_cell x = x ∷ []
 
-abbrev pub over_octets : List ℕ → ℕ → Turn → ℕ → State
-over_octets memory used turn space = bottom one_cell (take used memory) memory turn space
-
 pub joined_one : (xs : List ℕ) → flat_map one_cell xs ≡ xs
-joined_one [] = refl
-joined_one (x ∷ xs) = ap (λ ys. x ∷ ys) (joined_one xs)
+joined_one xs = flat_map_single (λ x. x) xs ∙ map-id xs
+
+-- the outlet over a memory of these bytes in which so many channel octets lie
+abbrev pub over : Placement → List ℕ → ℕ → Turn → ℕ → State
+over p bytes used turn space = bottom p.of_octet (p.octets_in used (p.of_bytes bytes)) (p.of_bytes bytes) turn space
+
+-- the first so many channel octets of a memory lie in it whole
+abbrev pub Laid : Placement → List ℕ → ℕ → Type 0
+Laid p bytes used = flat_map p.of_octet (p.octets_in used (p.of_bytes bytes)) ≡ take (p.width * used) (p.of_bytes bytes)
 
 -- a list is its front and what lies behind that
 pub front_and_rest : (n : ℕ) (xs : List ℕ) → xs ≡ take n xs ++ drop (length (take n xs)) xs
@@ -62,5 +68,5 @@ bottom_sound cells channel memory turn space n h e = record {
   laid = laid_front cells channel memory n e;
 }
 
-pub octets_sound : (memory : List ℕ) (used : ℕ) (turn : Turn) (space : ℕ) → space ≤ 65536 → Sound (over_octets memory used turn space)
-octets_sound memory used turn space h = bottom_sound one_cell (take used memory) memory turn space used h (joined_one (take used memory))
+pub over_sound : (p : Placement) (bytes : List ℕ) (used : ℕ) (turn : Turn) (space : ℕ) → space ≤ 65536 → Laid p bytes used → Sound (over p bytes used turn space)
+over_sound p bytes used turn space h e = bottom_sound p.of_octet (p.octets_in used (p.of_bytes bytes)) (p.of_bytes bytes) turn space (p.width * used) h e

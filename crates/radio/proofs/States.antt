@@ -1,8 +1,8 @@
 -- What follows from what every outlet means. Assumes nothing.
-use Rattle.std.proofs.Common.{◌≡◌, ℕ, ◌+◌, ◌%◌, ◌<◌, ◌≤◌, min, Bool, true, false, eqb, leb, List, [], ◌∷◌, ◌++◌, length, get_or, take, drop, Some, None, Ok, Err, Option, Result, sym, refl, ap, ◌∙◌, subst, append_assoc, mod-eq_of_lt, arith, ne_eqb, le-leb, leb-false, leb-true}
+use Rattle.std.proofs.Common.{◌≡◌, ℕ, ◌+◌, ◌%◌, ◌<◌, ◌≤◌, min, Bool, true, false, leb, List, [], ◌∷◌, ◌++◌, length, get_or, take, drop, Some, None, Ok, Err, Option, Result, sym, refl, ap, ◌∙◌, subst, append_assoc, mod-eq_of_lt, arith, le-leb, leb-false, leb-true}
 use borrow.Author.Tests.{lt-leb}
 use Rattle.std.proofs.lemmas.List.{append-nil, length-append, drop-drop, drop_at, take_more}
-use Rattle.std.proofs.lemmas.Bool.{and_right}
+use Rattle.std.proofs.lemmas.List.Concat.{flat_map-append}
 use Rattle.std.specs.List.{flat_map}
 use Rattle.refusal.specs.declared.Refusal.{Refusal}
 use Rattle.refusal.specs.declared.Refusal.TheVariants.{Argument, Turn as OutOfTurn, Uneven, Space}
@@ -25,19 +25,16 @@ min_same k u h = go (leb u 65535) refl where
   go true e = let l : u ≤ 65535 = leb-true u 65535 e in ap (λ v. k % v) (omega arith)
   go false e = let l : 65535 < u = leb-false u 65535 e in mod-eq_of_lt (omega arith) ∙ sym (mod-eq_of_lt (omega arith))
 
-pub not_even : (k u : ℕ) → (k % u ≡ 0 → ⊥) → even k u ≡ false
-not_even k u h = and_right (leb k 65534) (eqb (k % u) 0) (ne_eqb (k % u) 0 h)
-
 -- what was answered before the space was looked at
 module _ (p k : ℕ) (s : State) where
   form_ok_at : (a b c : Bool) → answer (unless a Argument (unless b OutOfTurn (unless c Uneven None))) ≡ Ok tt → (rest : Option Refusal) → unless a Argument (unless b OutOfTurn (unless c Uneven rest)) ≡ rest
   form_ok_at true true true e rest = refl
-  form_ok_at true true false e rest = let z : ◌≡◌ {A = ℕ} 0 1 = cc in absurd (omega arith)
-  form_ok_at true false c e rest = let z : ◌≡◌ {A = ℕ} 0 1 = cc in absurd (omega arith)
-  form_ok_at false b c e rest = let z : ◌≡◌ {A = ℕ} 0 1 = cc in absurd (omega arith)
+  form_ok_at true true false e rest = cc
+  form_ok_at true false c e rest = cc
+  form_ok_at false b c e rest = cc
 
   form_no_at : (a b c : Bool) (r : Refusal) → answer (unless a Argument (unless b OutOfTurn (unless c Uneven None))) ≡ Err r → (rest : Option Refusal) → unless a Argument (unless b OutOfTurn (unless c Uneven rest)) ≡ Some r
-  form_no_at true true true r e rest = let z : ◌≡◌ {A = ℕ} 0 1 = cc in absurd (omega arith)
+  form_no_at true true true r e rest = cc
   form_no_at true true false r e rest = cc
   form_no_at true false c r e rest = cc
   form_no_at false b c r e rest = cc
@@ -54,16 +51,12 @@ module _ (p k : ℕ) (s : State) where
   pub no_form : (r : Refusal) → Err r ≡ answer (out_of_form p k s None) → Err r ≡ answer (begin_refusal p k s)
   no_form r e = ap answer (sym (form_no r (sym e) (unless (leb (needed p k s) s.space) Space None)))
 
-pub joined_append : (f : ℕ → List ℕ) (xs ys : List ℕ) → flat_map f (xs ++ ys) ≡ flat_map f xs ++ flat_map f ys
-joined_append f [] ys = refl
-joined_append f (x ∷ xs) ys = ap (λ zs. f x ++ zs) (joined_append f xs ys) ∙ sym (append_assoc (f x) (flat_map f xs) (flat_map f ys))
-
 -- the memory with more of the channel at its start
 pub laid_further : (cells : ℕ → List ℕ) (channel more memory : List ℕ) → laid_over cells (channel ++ more) (laid_over cells channel memory) ≡ laid_over cells (channel ++ more) memory
 laid_further cells channel more memory =
     let J = flat_map cells channel in
     let K = flat_map cells more in
-    let n : length (flat_map cells (channel ++ more)) ≡ length J + length K = ap length (joined_append cells channel more) ∙ length-append J K in
+    let n : length (flat_map cells (channel ++ more)) ≡ length J + length K = ap length (flat_map-append cells channel more) ∙ length-append J K in
     ap (λ ys. flat_map cells (channel ++ more) ++ ys)
     (ap (λ k. drop k (J ++ drop (length J) memory)) n
     ∙ sym (drop-drop (length K) (length J) (J ++ drop (length J) memory))
@@ -128,9 +121,6 @@ module _ {A : Type 0} (did : State → State → Type 0) (state : A → State) (
   pub did_ok : Leaves did state r a b → did (state a) (state b)
   did_ok h = subst (λ (x : Result (Unit {0}) Refusal). Leaves did state x a b) ok h
 
-  pub leaves_ok : did (state a) (state b) → Leaves did state r a b
-  leaves_ok h = subst (λ (x : Result (Unit {0}) Refusal). Leaves did state x a b) (sym ok) h
-
 -- one whole message
 pub whole_message : (p : ℕ) (xs : List ℕ) (s t u v : State) → Sound u → Begun p (length xs) s t → Put xs t u → Ended u v → Written p xs s v
 whole_message p xs s t u v ok b q e = record {
@@ -153,10 +143,10 @@ calls_write p xs s t u v h b q e = whole_message p xs s t u v h b (puts_all xs t
 
 answer_ok : (o : Option Refusal) → Ok tt ≡ answer o → o ≡ None
 answer_ok None e = refl
-answer_ok (Some r) e = let z : ◌≡◌ {A = ℕ} 0 1 = cc in absurd (omega arith)
+answer_ok (Some r) e = cc
 
 answer_err : (o : Option Refusal) (r : Refusal) → Err r ≡ answer o → o ≡ Some r
-answer_err None r e = let z : ◌≡◌ {A = ℕ} 0 1 = cc in absurd (omega arith)
+answer_err None r e = cc
 answer_err (Some q) r e = cc
 
 -- one message in a memory that held none

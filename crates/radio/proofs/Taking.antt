@@ -7,8 +7,8 @@ use Rattle.radio.specs.Reception.{Ending, whole, fault}
 use Rattle.radio.specs.Lines.{Heard, ended, first, next, taken, tail, past}
 
 end_not_some : (e : Ending) (s : Symbol) → Ok (Some s) ≡ ended e → ⊥
-end_not_some whole s q = let z : ◌≡◌ {A = ℕ} 0 1 = cc in omega arith
-end_not_some (fault f) s q = let z : ◌≡◌ {A = ℕ} 0 1 = cc in omega arith
+end_not_some whole s q = cc
+end_not_some (fault f) s q = cc
 
 first_some : (ss : List Symbol) (e : Ending) (s : Symbol) → Ok (Some s) ≡ first ss e → ss ≡ s ∷ tail ss
 first_some [] e s q = absurd (end_not_some e s q)
@@ -16,13 +16,13 @@ first_some (x ∷ ss) e s q = let k : x ≡ s = cc in ap (λ y. y ∷ ss) k
 
 first_none : (ss : List Symbol) (e : Ending) → Ok None ≡ first ss e → (ss ≡ []) × (e ≡ whole)
 first_none [] whole q = (refl, refl)
-first_none [] (fault f) q = let z : ◌≡◌ {A = ℕ} 0 1 = cc in absurd (omega arith)
-first_none (x ∷ ss) e q = let z : ◌≡◌ {A = ℕ} 0 1 = cc in absurd (omega arith)
+first_none [] (fault f) q = cc
+first_none (x ∷ ss) e q = cc
 
 first_fault : (ss : List Symbol) (e : Ending) (f : Fault) → Err f ≡ first ss e → (ss ≡ []) × (e ≡ fault f)
-first_fault [] whole f q = let z : ◌≡◌ {A = ℕ} 0 1 = cc in absurd (omega arith)
+first_fault [] whole f q = cc
 first_fault [] (fault f₀) f q = let k : f₀ ≡ f = cc in (refl, ap fault k)
-first_fault (x ∷ ss) e f q = let z : ◌≡◌ {A = ℕ} 0 1 = cc in absurd (omega arith)
+first_fault (x ∷ ss) e f q = cc
 
 with_symbols : Heard → List Symbol → Heard
 with_symbols h ss = record { present = record { symbols = ss; ending = h.present.ending }; coming = h.coming; pile = h.pile; air = h.air; ground_unit = h.ground_unit }

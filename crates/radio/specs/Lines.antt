@@ -5,7 +5,7 @@ use Rattle.refusal.specs.declared.Fault.{Fault}
 use Rattle.refusal.specs.declared.Refusal.{Refusal}
 use Rattle.refusal.specs.declared.Refusal.TheVariants.{Quiet}
 use Rattle.radio.specs.declared.symbol.Symbol.{Symbol}
-use Rattle.radio.specs.Reception.{Reception, Ending, whole, fault, unopened}
+use Rattle.radio.specs.Reception.{Reception, Ending, whole, fault}
 use Rattle.radio.specs.Layer.{Pile, unit_of, read_through}
 
 pub record Heard : Type 0 where
@@ -30,11 +30,6 @@ pub record Sound (h : Heard) : Type 0 where
 -- what a bottom of unit 1 means
 abbrev pub at_bottom : Reception → List Reception → Heard
 at_bottom p cs = record { present = p; coming = cs; pile = []; air = cs; ground_unit = 1 }
-
--- nothing is present at a bottom before the first opening
-abbrev pub present_of : Bool → Reception → Reception
-present_of false r = unopened
-present_of true r = r
 
 -- nothing is to come at a bottom whose search for the next sign found none
 abbrev pub to_come : Bool → List Reception → List Reception

@@ -2,6 +2,7 @@
 #![tactic(auto)]
 
 pub mod line;
+pub mod medium;
 pub mod outlet;
 pub mod piles;
 pub mod symbol;

@@ -12,6 +12,7 @@ pub trait Outlet {
     ghost sound: { (s : Self) → Sound (state s) };
 
     /// Begins a message of `count` octets behind a preamble of `preamble` octets, and takes the space of the whole message.
+    // a number and no enum of the three lengths: every number may be asked for, and is answered
     fn begin(&mut self, preamble: u16, count: usize) -> Result<(), Refusal>
         ensures answers { result ≡ answer (begin_refusal preamble count (state self.old)) }
         ensures leaves { Leaves (Begun preamble count) state result self.old self.new };
@@ -38,11 +39,12 @@ pub trait Outlet {
         ensures { result ≡ min (unit (state self.now)) 65535 };
 
     /// Why a message can't begin, the space apart.
+    #[tactic(auto, using(crate::proofs::States::sound_unit, crate::proofs::States::min_same))]
     fn check_form(&self, preamble: u16, count: usize) -> Result<(), Refusal>
         ensures answers { result ≡ answer (out_of_form preamble count (state self.now) None) }
         ensures few { result ≡ Ok tt → count ≤ 65534 }
     {
-        if preamble != 3 && preamble != 38 && preamble != 250 {
+        if !matches!(preamble, 3 | 38 | 250) {
             return Err(Refusal::Argument);
         }
         let Turn::Idle = self.turn_of() else {

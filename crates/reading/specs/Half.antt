@@ -1,24 +1,20 @@
 -- What a reading half means over the line below. Assumes nothing.
 use Rattle.std.proofs.Common.{ap, ◌∙◌}
-use Rattle.std.specs.Prelude.{ℕ, Bool, true, false, List, ◌∷◌, ◌++◌, map, take, drop}
+use Rattle.std.specs.Prelude.{ℕ, List, ◌∷◌, ◌++◌, map, Some, None, Option}
 use Rattle.std.proofs.lemmas.Simd.{map-map}
-use Rattle.refusal.specs.declared.Cause.TheVariants.{Torn}
+use Rattle.refusal.specs.declared.Fault.{Fault}
 use Rattle.radio.specs.declared.symbol.Symbol.{Symbol}
-use Rattle.radio.specs.Reception.{Reception, made_at}
+use Rattle.radio.specs.Reception.{Reception, fault}
 use Rattle.radio.specs.Layer.{read_through}
 use Rattle.radio.specs.Lines.{Heard, Sound}
 use Rattle.coding.specs.Grouping.{Grouping, resumed, decoded}
 use Rattle.coding.specs.Lift.{layer_of}
 
 -- the present reception of a half that has decoded n symbols, of which those in front are yet to be taken, where r is present below;
--- a half that met a whole end inside a group is torn, and stays so
-abbrev pub held : Grouping → List Symbol → Bool → ℕ → Reception → Reception
-held c front true n r = record { symbols = front; ending = made_at Torn n }
-held c front false n r = record { symbols = front ++ (resumed c n r).symbols; ending = (resumed c n r).ending }
-
--- of a group of symbols, those from one place up to another are yet to be taken
-abbrev pub waiting : ℕ → ℕ → List Symbol → List Symbol
-waiting at end ready = drop at (take end ready)
+-- a half that met a whole end inside a group has the fault of that, and keeps it
+abbrev pub held : Grouping → List Symbol → Option Fault → ℕ → Reception → Reception
+held c front (Some f) n r = record { symbols = front; ending = fault f }
+held c front None n r = record { symbols = front ++ (resumed c n r).symbols; ending = (resumed c n r).ending }
 
 -- the line over a line that means h: each reception to come is decoded, and the layer stands on the pile below
 abbrev pub over : Grouping → Reception → Heard → Heard
@@ -30,7 +26,7 @@ over c p h = record {
   ground_unit = h.ground_unit;
 }
 
-abbrev pub half : Grouping → List Symbol → Bool → ℕ → Heard → Heard
+abbrev pub half : Grouping → List Symbol → Option Fault → ℕ → Heard → Heard
 half c front torn n h = over c (held c front torn n h.present) h
 
 -- a half as it is made: what is present below, as far as it is not yet taken there, is decoded

@@ -3,6 +3,7 @@ ghost use Rattle.radio.specs.Reception.{raised};
 ghost use Rattle.radio.specs.Lines.{past};
 ghost use Rattle.reading.specs.Gather.{Gathered};
 
+use arrayvec::ArrayVec;
 use radio::line::Line;
 use radio::symbol::Symbol;
 use refusal::Fault;
@@ -17,9 +18,8 @@ impl From<Fault> for Raised {
 
     fn from(f: Fault) -> Raised {
         Raised(Fault {
-            cause: f.cause,
-            place: f.place,
             rise: f.rise.saturating_add(1),
+            ..f
         })
     }
 }
@@ -32,22 +32,18 @@ impl From<Raised> for Fault {
     }
 }
 
-/// Takes up to `want` symbols of the present reception into the start of `group`: how many came,
-/// fewer only at the whole end.
-pub(crate) fn gather<L: Line>(
-    below: &mut L,
-    group: &mut [Symbol; 8],
-    want: usize,
-) -> Result<usize, Raised>
+/// Takes up to `want` symbols of the present reception: fewer only at the whole end.
+pub(crate) fn gather<L: Line>(below: &mut L, want: usize) -> Result<ArrayVec<Symbol, 8>, Raised>
     requires { want ≤ 8 }
-    ensures gives { Gathered want (L.Line.heard below.old).present result group.new }
+    ensures gives { Gathered want (L.Line.heard below.old).present result }
     ensures left { L.Line.heard below.new ≡ past want (L.Line.heard below.old) }
 {
-    for i in 0..want {
+    let mut group = ArrayVec::new();
+    for _ in 0..want {
         match below.take()? {
-            Some(s) => group[i] = s,
-            None => return Ok(i),
+            Some(s) => group.push(s),
+            None => return Ok(group),
         }
     }
-    Ok(want)
+    Ok(group)
 }

@@ -1,12 +1,13 @@
-ghost use Rattle.std.specs.Prelude.{◌≡◌, slice_index_or};
+ghost use Rattle.std.specs.Prelude.{◌≡◌, ◌+◌, min, length, Some};
 ghost use Rattle.refusal.specs.declared.Cause.TheVariants.{Torn};
-ghost use Rattle.radio.specs.declared.symbol.Symbol.TheVariants.{Clean};
 ghost use Rattle.reading.specs.Half.{fresh};
-ghost use Rattle.reading.specs.Meaning.{meaning, meaning_sound, Reads, Tears};
+ghost use Rattle.reading.specs.Meaning.{meaning, meaning_sound, Filled};
 
 use crate::Reading;
 use crate::gather::gather;
+use arrayvec::ArrayVec;
 use coding::Coding;
+use coding::group::filled_up;
 use radio::line::Line;
 use radio::symbol::Symbol;
 use refusal::{Cause, Fault, Refusal};
@@ -19,39 +20,58 @@ impl<C: Coding, L: Line> Reading<C, L> {
         Reading {
             below,
             coding,
-            ready: [Symbol::Spoiled; 8],
-            at: 0,
-            end: 0,
+            waiting: ArrayVec::new(),
             given: 0,
-            torn: false,
+            torn: None,
         }
     }
 
-    /// Reads a whole group: gives its first symbol, and keeps the others to be taken.
-    fn read(&mut self, group: &[Symbol; 8]) -> Symbol
-        ensures first { result ≡ slice_index_or self.new.ready 0 (Clean 0) }
-        ensures keeps { Reads C.Coding.grouping group.now self.old self.new }
+    /// Decodes a whole group, whose symbols then wait to be taken.
+    fn decode(&mut self, group: &[Symbol])
+        requires { length group.now ≡ C.Coding.grouping.coded }
+        ensures { self.new ≡ record self.old { waiting = record { items = C.Coding.grouping.read group.now }; given = min (self.old.given + C.Coding.grouping.plain) 65535 } }
     {
-        let ready = self.coding.decode(group);
         let plain = self.coding.plain();
-        self.ready = ready;
-        self.at = 1;
-        self.end = plain;
+        self.waiting = ArrayVec::from(self.coding.decode(&filled_up(group, Symbol::Spoiled)));
+        self.waiting.truncate(plain);
         self.given = self.given.saturating_add(plain as u16);
-        ready[0]
     }
 
     /// The fault of a torn group, which stays until the next opening.
     fn tear(&mut self) -> Fault
         ensures is { result ≡ record { cause = Torn; place = self.old.given; rise = 0 } }
-        ensures keeps { Tears self.old self.new }
+        ensures stays { self.new ≡ record self.old { torn = Some result } }
     {
-        self.torn = true;
-        Fault {
+        let fault = Fault {
             cause: Cause::Torn,
             place: self.given,
             rise: 0,
+        };
+        self.torn = Some(fault);
+        fault
+    }
+
+    /// With no symbol waiting, reads the next group below, if one comes.
+    fn refill(&mut self) -> Result<(), Fault>
+        ensures same { meaning C.Coding.grouping L.Line.heard self.new ≡ meaning C.Coding.grouping L.Line.heard self.old }
+        ensures filled { Filled self.new.waiting.items (meaning C.Coding.grouping L.Line.heard self.old).present result }
+    {
+        if !self.waiting.is_empty() {
+            return Ok(());
         }
+        if let Some(fault) = self.torn {
+            return Err(fault);
+        }
+        let want = self.coding.coded();
+        let group = gather(&mut self.below, want)?;
+        if group.is_empty() {
+            return Ok(());
+        }
+        if group.len() < want {
+            return Err(self.tear());
+        }
+        self.decode(&group);
+        Ok(())
     }
 }
 
@@ -62,32 +82,15 @@ impl<C: Coding, L: Line> Line for Reading<C, L> {
 
     fn open(&mut self) -> Result<(), Refusal> {
         self.below.open()?;
-        self.at = 0;
-        self.end = 0;
+        self.waiting.clear();
         self.given = 0;
-        self.torn = false;
+        self.torn = None;
         Ok(())
     }
 
     fn take(&mut self) -> Result<Option<Symbol>, Fault> {
-        if self.at < self.end {
-            let s = self.ready[self.at];
-            self.at += 1;
-            return Ok(Some(s));
-        }
-        if self.torn {
-            return Err(self.tear());
-        }
-        let want = self.coding.coded();
-        let mut group = [Symbol::Spoiled; 8];
-        let n = gather(&mut self.below, &mut group, want)?;
-        if n == 0 {
-            return Ok(None);
-        }
-        if n < want {
-            return Err(self.tear());
-        }
-        Ok(Some(self.read(&group)))
+        self.refill()?;
+        Ok(self.waiting.pop_at(0))
     }
 
     fn unit_of(&self) -> u16 {

@@ -11,22 +11,18 @@ use std::fmt;
 #[derive(Clone, Copy, PartialEq, Eq, Debug)]
 pub enum Cause {
     /// What was heard ran out.
-    Dry,
+    Dry = 4,
     /// The sign of the next reception came first.
-    Cut,
+    Cut = 5,
     /// The reception ended whole, but inside a group of a layer.
-    Torn,
+    Torn = 6,
 }
 
 impl Cause {
     pub fn number(self) -> u8
         ensures { result ≡ cause_number self }
     {
-        match self {
-            Cause::Dry => 4,
-            Cause::Cut => 5,
-            Cause::Torn => 6,
-        }
+        self as u8
     }
 
     pub fn name(self) -> &'static str
@@ -48,6 +44,8 @@ pub struct Fault {
     pub place: u16,
     pub rise: u8,
 }
+
+// A derived text or conversion has no contract, so the texts and the conversion below are written out.
 
 /// `4 DRY place 3 rise 2`
 impl fmt::Display for Fault {
@@ -91,6 +89,7 @@ pub enum Refusal {
 }
 
 impl Refusal {
+    // `as` takes no enum with a fault in it, so the numbers stand here.
     pub fn number(self) -> u8
         ensures { result ≡ (title self).number }
     {

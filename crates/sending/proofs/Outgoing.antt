@@ -1,8 +1,10 @@
 -- What a sending half comes to. Assumes nothing.
-use Rattle.std.proofs.Common.{◌≡◌, ℕ, zero, suc, ◌+◌, ◌-◌, ◌*◌, ◌/◌, ◌%◌, ◌<◌, ◌≤◌, min, Bool, true, false, cond, ◌||◌, eqb, leb, List, [], ◌∷◌, ◌++◌, length, take, set, None, Ok, Err, Option, sym, refl, ap, ◌∙◌, ⊎_elim, mul_assoc, mul_comm, add-mul, mul-le-mul_left, one-mul, div-add-mod', div-mul-le_self, mul-div_cancel, add-one, arith, eq-eqb, ne_eqb, eqb-true, le-leb}
-use native.Mathlib.Nat.{ℕ_set, div-add-mod, mul-div_right, mul-mod_left, mul-mod_right, mul-add-div, div-eq_of_lt}
-use Rattle.std.proofs.lemmas.List.{length-take-le, length_push, take_more_set}
+use Rattle.std.proofs.Common.{◌≡◌, ℕ, zero, suc, ◌+◌, ◌-◌, ◌*◌, ◌/◌, ◌%◌, ◌<◌, ◌≤◌, Bool, true, false, cond, ◌||◌, eqb, leb, List, [], ◌∷◌, ◌++◌, length, None, Ok, Err, Option, sym, refl, ap, ◌∙◌, ⊎_elim, mul_assoc, mul_comm, add-mul, one-mul, div-add-mod', mul-div_cancel, add-one, arith, eq-eqb, ne_eqb, eqb-true, le-leb}
+use native.Mathlib.Bridge.{le_prop}
+use native.Mathlib.Nat.{div-add-mod, mul-div_right, mul-mod_left, mul-mod_right}
+use Rattle.std.proofs.lemmas.List.{length_push}
 use Rattle.std.proofs.lemmas.Bool.{and_parts, and_from, or_cases}
+use Rattle.arrayvec.specs.ArrayVec.{ArrayVec, array_vec_len}
 use Rattle.refusal.specs.declared.Refusal.{Refusal}
 use Rattle.refusal.specs.declared.Refusal.TheVariants.{Argument, Turn as OutOfTurn, Uneven, Space}
 use Rattle.radio.specs.declared.turn.Turn.{Turn}
@@ -16,14 +18,8 @@ use Rattle.coding.specs.declared.Coding.{Ghosts as CodingOf}
 use Rattle.sending.specs.declared.Sending.{Sending}
 use Rattle.coding.specs.Regroup.{regroup}
 use Rattle.coding.specs.Grouping.{Grouping, groups_in, counted}
-use Rattle.coding.specs.Lift.{layer_of}
-use Rattle.sending.specs.Outgoing.{turn_over, over_outlet, held_back, SendsCoding}
-
-pub owed_le : (n c p : ℕ) → p ≤ c → n / c * p ≤ n
-owed_le n c p h =
-    let a : n / c * p ≤ n / c * c = mul-le-mul_left (n / c) h in
-    let b = div-mul-le_self n c in
-    omega arith
+use Rattle.coding.specs.Lift.{layer_of, some_coded, groups_of}
+use Rattle.sending.specs.Outgoing.{turn_over, over_outlet, SendsCoding}
 
 times_suc : (j q : ℕ) → suc j * q ≡ j * q + q
 times_suc j q = ap (λ i. i * q) (sym (add-one j)) ∙ add-mul j 1 q ∙ ap (λ r. j * q + r) (one-mul q)
@@ -33,11 +29,8 @@ pub half_goes : (c : Grouping) (h h' : List ℕ) (b b' : State) → GoesOn b b' 
 half_goes c h h' b b' r = record { pile = ap (λ ls. layer_of c ∷ ls) r.pile; ground_unit = r.ground_unit; cells = r.cells; grows = r.grows; memory = r.memory }
 
 module _ (c : Grouping) where
-  coded_pos : 0 < c.coded
-  coded_pos = let a = c.some in let d = c.no_less in omega arith
-
   turn_at : (k h : ℕ) → turn_over c.plain c.coded (Owing (k * c.coded)) h ≡ Owing (k * c.plain - h)
-  turn_at k h = ap (λ r. cond (eqb r 0) (Owing (k * c.coded / c.coded * c.plain - h)) Stuck) (mul-mod_left k c.coded) ∙ ap (λ q. Owing (q * c.plain - h)) (mul-div_cancel k coded_pos)
+  turn_at k h = ap (λ r. cond (eqb r 0) (Owing (k * c.coded / c.coded * c.plain - h)) Stuck) (mul-mod_left k c.coded) ∙ ap (λ q. Owing (q * c.plain - h)) (mul-div_cancel k (some_coded c))
 
   -- what a half that is owed octets says of the outlet below
   record Below (t : Turn) (h n : ℕ) : Type 0 where
@@ -67,9 +60,6 @@ module _ (c : Grouping) where
   idle_below (Owing m) h e = absurd (idle_owing m h (eqb (m % c.coded) 0) e)
   idle_below Stuck h e = let z : ◌≡◌ {A = ℕ} 0 1 = cc in absurd (omega arith)
 
-  groups_of : (m : ℕ) → groups_in c (c.plain * m) ≡ m
-  groups_of m = mul-add-div c.some m (c.plain - 1) ∙ ap (λ z. m + z) (div-eq_of_lt (omega (arith, c.some))) ∙ omega arith
-
   -- a count that is a multiple of the half's unit, in groups
   module _ (u k : ℕ) (multiple : k % (c.plain * u) ≡ 0) where
     abbrev q : ℕ
@@ -85,7 +75,7 @@ module _ (c : Grouping) where
     q_is = ap (λ n. n / c.plain) k_is ∙ mul-div_right q c.some
 
     pub count_is : counted c k ≡ k / c.plain * c.coded
-    count_is = ap (λ n. c.coded * groups_in c n) k_is ∙ ap (λ n. c.coded * n) (groups_of q) ∙ mul_comm c.coded q ∙ ap (λ n. n * c.coded) (sym q_is)
+    count_is = ap (λ n. c.coded * groups_in c n) k_is ∙ ap (λ n. c.coded * n) (groups_of c q) ∙ mul_comm c.coded q ∙ ap (λ n. n * c.coded) (sym q_is)
 
     pub even_below : (k / c.plain * c.coded) % u ≡ 0
     even_below = ap (λ n. (n * c.coded) % u) q_is ∙ ap (λ n. n % u) (mul_assoc u (k / (c.plain * u)) c.coded) ∙ mul-mod_right u (k / (c.plain * u) * c.coded)
@@ -179,10 +169,8 @@ module _ (c : Grouping) (h : List ℕ) (b : State) (x n : ℕ) (owes : turn_over
     at_least (suc j) e = let z = times_suc j c.coded in omega arith
 
     -- a whole group is owed below
-    pub group_accepted : Ok tt ≡ answer (put_refusal (length (c.code (h ++ (x ∷ [])))) b.turn)
-    group_accepted =
-        let l = code_length in
-        put_accepted (length (c.code (h ++ (x ∷ [])))) (under.groups * c.coded) b.turn under.is (let m = at_least under.groups under.left in omega arith)
+    pub group_accepted : Ok tt ≡ answer (put_refusal c.coded b.turn)
+    group_accepted = put_accepted c.coded (under.groups * c.coded) b.turn under.is (at_least under.groups under.left)
 
     one_less : (j : ℕ) → n ≡ j * c.plain - length h → turn_over c.plain c.coded (Owing (j * c.coded - c.coded)) 0 ≡ Owing (n - 1)
     one_less zero e = absurd (let z : 0 * c.plain ≡ 0 = omega arith in omega arith)
@@ -225,30 +213,12 @@ ended_half c h b b' e = record {
   goes_on = half_goes c h h b b' e.goes_on;
 }
 
--- the octets held back
-module _ (c : Grouping) (group : List ℕ) (eight : length group ≡ 8) where
-  pub held_length : (held : ℕ) → length (held_back c held group) ≡ min held (c.plain - 1)
-  held_length held = let a = c.no_less in let d = c.few in length-take-le (min held (c.plain - 1)) group (omega arith)
-
-  module _ (held hd x : ℕ) (is : hd ≡ min held (c.plain - 1)) where
-    held_more : take (hd + 1) (set group hd x) ≡ held_back c held group ++ (x ∷ [])
-    held_more = let a = c.no_less in let d = c.few in let s = c.some in take_more_set group hd x (omega arith) ∙ ap (λ k. take k group ++ (x ∷ [])) is
-
-    pub held_put : hd + 1 < c.plain → held_back c (hd + 1) (set group hd x) ≡ held_back c held group ++ (x ∷ [])
-    held_put l = let m : min (hd + 1) (c.plain - 1) ≡ hd + 1 = omega arith in ap (λ k. take k (set group hd x)) m ∙ held_more
-
-    pub held_full : hd + 1 ≡ c.plain → take c.plain (set group hd x) ≡ held_back c held group ++ (x ∷ [])
-    held_full e = ap (λ k. take k (set group hd x)) (sym e) ∙ held_more
-
-pub held_none : (c : Grouping) (group : List ℕ) → held_back c 0 group ≡ []
-held_none c group = let z : min 0 (c.plain - 1) ≡ 0 = omega arith in ap (λ k. take k group) z
-
 -- a half over another outlet below that is the same
-pub same_but_below : {C O : Type 0} {codes : CodingOf C} {writes : OutletOf O} (y y' : O) (k : C) (group : List ℕ) (held : ℕ) (l l' : length group ≡ 8) → y ≡ y'
-    → ◌≡◌ {A = Sending C O codes writes} (record { below = y; coding = k; group = group; held = held; long = l }) (record { below = y'; coding = k; group = group; held = held; long = l' })
-same_but_below {C} {O} {codes} {writes} y y' k group held l l' e =
-    let F : O → length group ≡ 8 → Sending C O codes writes = λ z m. record { below = z; coding = k; group = group; held = held; long = m } in
-    ap (λ z. F z l) e ∙ ap (F y') (ℕ_set (length group) 8 l l')
+pub same_but_below : {C O : Type 0} {codes : CodingOf C} {writes : OutletOf O} (y y' : O) (k : C) (held : ArrayVec ℕ) (l l' : array_vec_len held < codes.grouping.plain) → y ≡ y'
+    → ◌≡◌ {A = Sending C O codes writes} (record { below = y; coding = k; held = held; unfinished = l }) (record { below = y'; coding = k; held = held; unfinished = l' })
+same_but_below {C} {O} {codes} {writes} y y' k held l l' e =
+    let F : O → array_vec_len held < codes.grouping.plain → Sending C O codes writes = λ z m. record { below = z; coding = k; held = held; unfinished = m } in
+    ap (λ z. F z l) e ∙ ap (F y') (le_prop l l')
 
 -- a message through a half is its coding below
 pub sends_coding : SendsCoding

@@ -1,5 +1,5 @@
 -- What a sending half means over the outlet below. Assumes nothing.
-use Rattle.std.specs.Prelude.{ℕ, ◌-◌, ◌*◌, ◌/◌, ◌%◌, ◌≤◌, min, cond, List, ◌∷◌, length, take, ◌==◌}
+use Rattle.std.specs.Prelude.{ℕ, ◌-◌, ◌*◌, ◌/◌, ◌%◌, ◌≤◌, cond, List, ◌∷◌, length, ◌==◌}
 use Rattle.radio.specs.declared.turn.Turn.{Turn}
 use Rattle.radio.specs.declared.turn.Turn.TheVariants.{Idle, Owing, Stuck}
 use Rattle.radio.specs.Layer.{Fit}
@@ -31,19 +31,19 @@ over_outlet c held b = record {
   cells = b.cells;
 }
 
--- the octets held back are at the start of the group, and fewer than a group
-abbrev pub held_back : Grouping → ℕ → List ℕ → List ℕ
-held_back c held group = take (min held (c.plain - 1)) group
-
--- what a sending half means by its fields; `under` is what the outlet below means
+-- what a sending half means by its fields: the octets that it holds are held back; `under` is what the outlet below means
 abbrev pub outgoing : {C O : Type 0} {k : CodingOf C} {l : OutletOf O} → Grouping → (O → State) → Sending C O k l → State
-outgoing c under s = over_outlet c (held_back c s.held s.group) (under s.below)
+outgoing c under s = over_outlet c s.held.items (under s.below)
+
+-- the outlet below a half
+abbrev pub below_of : {C O : Type 0} {k : CodingOf C} {l : OutletOf O} → Sending C O k l → O
+below_of s = s.below
 
 pub over_outlet_sound : (c : Grouping) (held : List ℕ) (b : State) → Sound b → Sound (over_outlet c held b)
 over_outlet_sound c held b s = record { none_put = s.none_put; spaced = s.spaced; grounded = s.grounded; laid = s.laid }
 
 pub outgoing_sound : {C O : Type 0} {k : CodingOf C} {l : OutletOf O} (c : Grouping) (under : O → State) → ((o : O) → Sound (under o)) → (s : Sending C O k l) → Sound (outgoing c under s)
-outgoing_sound c under sound s = over_outlet_sound c (held_back c s.held s.group) (under s.below) (sound s.below)
+outgoing_sound c under sound s = over_outlet_sound c s.held.items (under s.below) (sound s.below)
 
 -- the sending side of a layer: whenever a whole message has gone through a half, the outlet below is as if the layer's coding of it had been written there
 abbrev pub SendsCoding : Type 0

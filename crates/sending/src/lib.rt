@@ -1,8 +1,10 @@
 //! The sending half of a layer: over any outlet, itself an outlet.
 #![tactic(auto)]
 
-ghost use Rattle.std.specs.Prelude.{◌≡◌, length};
+ghost use Rattle.std.specs.Prelude.{◌<◌};
+ghost use Rattle.arrayvec.specs.ArrayVec.{array_vec_len};
 
+use arrayvec::ArrayVec;
 use coding::Coding;
 use radio::outlet::Outlet;
 
@@ -16,7 +18,6 @@ pub use half::sending_holds;
 pub struct Sending<C: Coding, O: Outlet> {
     below: O,
     coding: C,
-    group: [u8; 8],
-    held: usize,
-    ghost long: { length group ≡ 8 },
+    held: ArrayVec<u8, 8>,
+    ghost unfinished: { array_vec_len held < C.Coding.grouping.plain },
 }

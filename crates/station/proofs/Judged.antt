@@ -4,8 +4,9 @@ use Rattle.std.proofs.lemmas.Bool.{and_from, le-leb, eq-eqb}
 use Rattle.refusal.specs.declared.Refusal.{Refusal}
 use Rattle.refusal.specs.declared.Refusal.TheVariants.{Spoiled as Spoilt, Count, Pad}
 use Rattle.radio.specs.declared.symbol.Symbol.{Symbol}
+use Rattle.radio.specs.Reception.{Reception}
 use Rattle.message.specs.Message.{within}
-use Rattle.station.specs.Judging.{require, few_spoiled, number, blank, mended, summed}
+use Rattle.station.specs.Judging.{require, then_check, few_spoiled, number, blank, mended, summed, fields_checked, judged, collected, believed}
 use Rattle.station.specs.Nearness.{rounded}
 
 -- a check that passed
@@ -22,15 +23,17 @@ module _ (u : ℕ) (ss : List Symbol) (n : ℕ) (is : n ≡ number ss) (few : fe
   counts : (within 6 74 n && eqb (rounded u n) (length ss)) ≡ true
   counts = and_from (within 6 74 n) (eqb (rounded u n) (length ss)) (and_from _ _ (le-leb 6 n least) (le-leb n 74 most)) (eq-eqb (rounded u n) (length ss) round)
 
-  up_to_pad : (b : Bool) → blank (drop n ss) ≡ b → summed u ss ≡ require b Pad (mended (take n ss))
-  up_to_pad b e =
+  pub all_blank : blank (drop n ss) ≡ true → summed u ss ≡ mended (take n ss)
+  all_blank e =
       ap (λ c. require c Spoilt (require (within 6 74 (number ss) && eqb (rounded u (number ss)) (length ss)) Count (require (blank (drop (number ss) ss)) Pad (mended (take (number ss) ss))))) few
       ∙ ap (λ k. require (within 6 74 k && eqb (rounded u k) (length ss)) Count (require (blank (drop k ss)) Pad (mended (take k ss)))) (sym is)
       ∙ ap (λ c. require c Count (require (blank (drop n ss)) Pad (mended (take n ss)))) counts
       ∙ ap (λ c. require c Pad (mended (take n ss))) e
 
-  pub not_blank : blank (drop n ss) ≡ false → summed u ss ≡ Err Pad
-  not_blank e = up_to_pad false e
+-- a reception that was collected
+module _ (u : ℕ) (p : Reception) (ss : List Symbol) (got : collected p ≡ Ok ss) where
+  pub not_summed : (e : Refusal) → summed u ss ≡ Err e → believed u p ≡ Err e
+  not_summed e h = ap (λ z. then_check z (judged u)) got ∙ ap (λ z. then_check z fields_checked) h
 
-  pub all_blank : blank (drop n ss) ≡ true → summed u ss ≡ mended (take n ss)
-  all_blank e = up_to_pad true e
+  pub is_summed : (m : List ℕ) → summed u ss ≡ Ok m → believed u p ≡ fields_checked m
+  is_summed m h = ap (λ z. then_check z (judged u)) got ∙ ap (λ z. then_check z fields_checked) h

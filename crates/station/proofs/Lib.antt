@@ -1,8 +1,8 @@
 pub mod Collecting
 pub mod Exactly
 pub mod Judged
+mod Multiples
 pub mod ReadSteps
-pub mod Receipt
 pub mod Spoilt
 pub mod Sums
 pub mod Worked

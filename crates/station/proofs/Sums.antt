@@ -2,7 +2,7 @@
 use Rattle.std.proofs.Common.{◌≡◌, ℕ, ◌<◌, Bool, true, false, ◌&&◌, ltb, List, length, set, Ok, Err, Decides, refl, ap, arith}
 use Rattle.std.proofs.ByRecursion.{All-get_or, Decides-by_and}
 use Rattle.std.proofs.lemmas.List.{get_or-set_same, length-set}
-use Rattle.std.proofs.lemmas.Bool.{and_from}
+use Rattle.std.proofs.lemmas.Bool.{and_from, and_left}
 use Rattle.std.proofs.lemmas.Bool.Decides.{Decides-ltb}
 use Rattle.refusal.specs.declared.Refusal.TheVariants.{Sum}
 use Rattle.message.specs.Message.{Octets, all_octets}
@@ -25,6 +25,9 @@ no_octet m i v l h = by (all_octets (set m i v)) refl
 
 pub sum_refused : (m : List ℕ) → (all_octets m && sum_right m) ≡ false → sum_checked m ≡ Err Sum
 sum_refused m e = ap (λ b. require b Sum (Ok m)) e
+
+pub no_octet_fits : (m : List ℕ) (i v : ℕ) → i < length m → 255 < v → sum_checked (set m i v) ≡ Err Sum
+no_octet_fits m i v l h = sum_refused (set m i v) (and_left _ _ (no_octet m i v l h))
 
 pub sum_accepted : (m : List ℕ) → all_octets m ≡ true → sum_right m ≡ true → sum_checked m ≡ Ok m
 sum_accepted m a b = ap (λ c. require c Sum (Ok m)) (and_from (all_octets m) (sum_right m) a b)

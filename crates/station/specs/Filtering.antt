@@ -2,6 +2,15 @@
 use Rattle.std.specs.Prelude.{ℕ, Bool, true, false, not, ◌&&◌, ◌||◌, List, replicate, Some, None, Option, ◌==◌, nat_lt, slice_index_or, slice_set}
 use Rattle.message.specs.Message.{kind, destination}
 use Rattle.station.specs.declared.filters.Filters.{Filters}
+use Rattle.station.specs.declared.station.Station.{Station}
+
+-- a station's own address
+abbrev pub own_address : Station → ℕ
+own_address s = s.own
+
+-- the filters that a station's reads go through
+abbrev pub filters_of : Station → Filters
+filters_of s = s.filters
 
 -- all filters off
 abbrev pub off : Filters

@@ -2,5 +2,4 @@ pub mod Filtering
 pub mod Nearness
 pub mod Judging
 pub mod Counting
-pub mod Receiving
 pub mod Exactness

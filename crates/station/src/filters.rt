@@ -5,7 +5,7 @@ ghost use Rattle.station.specs.Judging.{filtered};
 use refusal::Refusal;
 
 /// The filters of a station, all off at first.
-#[derive(Clone, Copy)]
+#[derive(Clone, Copy, Default)]
 pub struct Filters {
     /// Off, or the least strength that passes.
     pub strength: Option<u8>,
@@ -18,6 +18,7 @@ pub struct Filters {
 /// What a read tells of the message that it hands up.
 #[derive(Clone, Copy, PartialEq, Eq, Debug)]
 pub struct Facts {
+    // a number and no enum of the four types: `pass` takes every number, and so does `Station::mute`
     pub kind: u8,
     pub source: u16,
     /// None in a beacon.
@@ -33,10 +34,8 @@ impl Filters {
     pub fn pass(&self, own: u16, facts: &Facts) -> Result<(), Refusal>
         ensures { result ≡ filtered own self.now facts.now.strength facts.now.kind facts.now.destination }
     {
-        if let Some(limit) = self.strength {
-            if facts.strength < limit {
-                return Err(Refusal::Weak);
-            }
+        if self.strength.is_some_and(|limit| facts.strength < limit) {
+            return Err(Refusal::Weak);
         }
         if self.identity && !is_for(own, facts.destination) {
             return Err(Refusal::Other);
@@ -50,12 +49,7 @@ impl Filters {
     fn is_muted(&self, kind: u8) -> bool
         ensures { result ≡ muted self.now kind }
     {
-        let muted = self.muted;
-        if kind < 4 {
-            muted[kind as usize]
-        } else {
-            false
-        }
+        self.muted.get(usize::from(kind)).is_some_and(|on| *on)
     }
 }
 
@@ -63,8 +57,5 @@ impl Filters {
 fn is_for(own: u16, destination: Option<u16>) -> bool
     ensures { elsewhere own destination ≡ not result }
 {
-    match destination {
-        Some(to) => to == own || to == 0xffff,
-        None => false,
-    }
+    destination.is_some_and(|to| to == own || to == 0xffff)
 }

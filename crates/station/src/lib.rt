@@ -2,11 +2,12 @@
 #![tactic(auto)]
 
 mod collect;
+mod counted;
 pub mod exact;
 mod fields;
 pub mod filters;
 mod judge;
-mod mend;
+mod line_unit;
 mod receive;
 pub mod rounding;
 pub mod station;

@@ -1,10 +1,11 @@
 ghost use Rattle.std.specs.Prelude.{◌≡◌, ◌<◌, ◌≤◌, ◌⊎◌, length, MatchResult};
 ghost use Rattle.refusal.specs.declared.Refusal.TheVariants.{Argument};
-ghost use Rattle.station.specs.Filtering.{off, with_strength, with_identity, with_mute};
+ghost use Rattle.station.specs.Filtering.{own_address, filters_of, off, with_strength, with_identity, with_mute};
 ghost use Rattle.station.specs.Judging.{reading, told, buffer_left, line_left};
 
 use crate::filters::{Facts, Filters};
-use crate::receive::{hand_up, receive};
+use crate::line_unit::LineUnit;
+use crate::receive::receive;
 use radio::line::Line;
 use refusal::Refusal;
 
@@ -18,45 +19,41 @@ pub struct Station {
 impl Station {
     /// A station with all filters off; `Argument` for the address 0000, which is none, and FFFF, which is everybody's.
     pub fn new(own: u16) -> Result<Station, Refusal>
-        ensures { MatchResult result (λ s. (1 ≤ own) × (own ≤ 0xfffe) × (s.own ≡ own) × (s.filters ≡ off)) (λ e. ((own ≡ 0) ⊎ (own ≡ 0xffff)) × (e ≡ Argument)) }
+        ensures { MatchResult result (λ s. (1 ≤ own) × (own ≤ 0xfffe) × (own_address s ≡ own) × (filters_of s ≡ off)) (λ e. ((own ≡ 0) ⊎ (own ≡ 0xffff)) × (e ≡ Argument)) }
     {
         if own == 0 || own == 0xffff {
             return Err(Refusal::Argument);
         }
-        let filters = Filters {
-            strength: None,
-            identity: false,
-            muted: [false; 4],
-        };
-        Ok(Station { own, filters })
+        Ok(Station {
+            own,
+            filters: Filters::default(),
+        })
     }
 
     /// Sets the strength filter: off, or on with the least strength that passes.
     pub fn set_strength(&mut self, limit: Option<u8>)
-        ensures own { self.new.own ≡ self.old.own }
-        ensures filters { self.new.filters ≡ with_strength limit self.old.filters }
+        ensures own { own_address self.new ≡ own_address self.old }
+        ensures filters { filters_of self.new ≡ with_strength limit (filters_of self.old) }
     {
         self.filters.strength = limit;
     }
 
     /// Sets the identity filter.
     pub fn set_identity(&mut self, on: bool)
-        ensures own { self.new.own ≡ self.old.own }
-        ensures filters { self.new.filters ≡ with_identity on self.old.filters }
+        ensures own { own_address self.new ≡ own_address self.old }
+        ensures filters { filters_of self.new ≡ with_identity on (filters_of self.old) }
     {
         self.filters.identity = on;
     }
 
     /// Mutes one of the types 0 to 3, or unmutes it; `Argument`, and nothing changed, for another type.
     pub fn mute(&mut self, kind: u8, on: bool) -> Result<(), Refusal>
-        ensures { MatchResult result (λ _. (kind ≤ 3) × (self.new.own ≡ self.old.own) × (self.new.filters ≡ with_mute kind on self.old.filters)) (λ e. (3 < kind) × (e ≡ Argument) × (self.new ≡ self.old)) }
+        ensures { MatchResult result (λ _. (kind ≤ 3) × (own_address self.new ≡ own_address self.old) × (filters_of self.new ≡ with_mute kind on (filters_of self.old))) (λ e. (3 < kind) × (e ≡ Argument) × (self.new ≡ self.old)) }
     {
         if kind > 3 {
             return Err(Refusal::Argument);
         }
-        let mut muted = self.filters.muted;
-        muted[kind as usize] = on;
-        self.filters.muted = muted;
+        self.filters.muted[usize::from(kind)] = on;
         Ok(())
     }
 
@@ -68,22 +65,19 @@ impl Station {
         strength: u8,
         buffer: &mut [u8],
     ) -> Result<Facts, Refusal>
-        ensures answers { result ≡ told strength (reading self.now.own self.now.filters strength (length buffer.old) (L.Line.heard line.old)) }
-        ensures buffer { buffer.new ≡ buffer_left (reading self.now.own self.now.filters strength (length buffer.old) (L.Line.heard line.old)) buffer.old }
+        ensures answers { result ≡ told strength (reading (own_address self.now) (filters_of self.now) strength (length buffer.old) (L.Line.heard line.old)) }
+        ensures buffer { buffer.new ≡ buffer_left (reading (own_address self.now) (filters_of self.now) strength (length buffer.old) (L.Line.heard line.old)) buffer.old }
         ensures left { L.Line.heard line.new ≡ line_left (length buffer.old) (L.Line.heard line.old) }
     {
         if buffer.len() < 66 {
             return Err(Refusal::Short);
         }
-        let unit = line.unit_of() as usize;
-        if unit > 24 {
-            return Err(Refusal::Unit);
-        }
+        let unit = LineUnit::of(line)?;
         line.open()?;
-        let mut octets = [0; 74];
-        let facts = receive(line, unit, strength, &mut octets)?;
+        let message = receive(line, unit)?;
+        let facts = message.facts(strength);
         self.filters.pass(self.own, &facts)?;
-        hand_up(&octets, &facts, buffer);
+        message.hand_up(buffer);
         Ok(facts)
     }
 }

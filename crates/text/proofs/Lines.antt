@@ -1,43 +1,57 @@
--- Steps through a line in search of its first word, and the words behind it.
-use Rattle.std.proofs.Common.{◌≡◌, ℕ, zero, suc, ◌+◌, ◌-◌, ◌<◌, ◌≤◌, Bool, true, false, cond, eqb, List, [], ◌∷◌, ◌++◌, length, get_or, take, drop, sym, refl, ap, ◌∙◌, ⊎_elim, append_assoc, append-nil, arith}
+-- The first word of a line, and the words behind it.
+use Rattle.std.proofs.Common.{◌≡◌, ℕ, zero, suc, ◌+◌, ◌-◌, ◌<◌, ◌≤◌, Bool, true, false, not, cond, eqb, List, [], ◌∷◌, ◌++◌, length, take, drop, Some, None, Option, position, sym, refl, ap, ◌∙◌, subst, ⊎_elim, append_assoc, append-nil, arith}
 use Rattle.std.proofs.lemmas.Bool.{cases_Bool, ne_eqb}
-use Rattle.std.proofs.lemmas.List.{take_rest, at_drop_more}
+use Rattle.std.proofs.lemmas.Bool.Decides.{nat_tests}
+use Rattle.std.proofs.lemmas.List.{take_rest, drop_all}
+use Rattle.std.proofs.lemmas.List.Recursion.{is_position_or_len}
+use Rattle.std.specs.List.{position_or_len}
+use Rattle.std.specs.Option.{unwrap_or}
+use Rattle.std.specs.Prelude.{nat_lt}
 use Rattle.text.specs.Words.{blank, in_front, words_from, from_word, before_blank, none_left}
 
--- what lies behind the first byte
-abbrev pub after : List ℕ → List ℕ
-after xs = take (length xs - 1) (drop 1 xs)
+-- where a search stops
+some_place : (b : Bool) (n i : ℕ) → cond b (Some n) None ≡ Some i → n ≡ i
+some_place true n i e = cc
+some_place false n i e = let z : ◌≡◌ {A = ℕ} 0 1 = cc in absurd (omega arith)
 
-from_more : (xs : List ℕ) → 1 ≤ length xs → from_word xs ≡ cond (blank (get_or xs 0 0)) (from_word (after xs)) xs
-from_more [] h = absurd (omega arith)
-from_more (x ∷ xs) h = ap (λ (ys : List ℕ). cond (blank x) (from_word ys) (x ∷ xs)) (sym (take_rest (x ∷ xs) 1))
+no_place : (n m : ℕ) → cond (nat_lt n m) (Some n) None ≡ None → m ≤ n
+no_place n m e = grind (arith, nat_tests)
 
--- a blank is passed over
-pub from_step : (xs : List ℕ) (r : Bool) → 1 ≤ length xs → r ≡ blank (get_or xs 0 0) → r ≡ true → from_word (after xs) ≡ from_word xs
-from_step xs r h e t = sym (from_more xs h ∙ ap (λ (b : Bool). cond b (from_word (after xs)) xs) (sym e ∙ t))
+place_or_end : (n m : ℕ) → n ≤ m → unwrap_or (cond (nat_lt n m) (Some n) None) m ≡ n
+place_or_end n m h = grind (arith, nat_tests)
+
+abbrev pub other : ℕ → Bool
+other b = not (blank b)
+
+from_place : (xs : List ℕ) → from_word xs ≡ drop (position_or_len other xs) xs
+from_place [] = refl
+from_place (x ∷ xs) =
+    let more : suc (position_or_len other xs) ≡ 1 + position_or_len other xs = omega arith in
+    let passed : from_word xs ≡ drop (1 + position_or_len other xs) (x ∷ xs) = from_place xs ∙ ap (λ (n : ℕ). drop n (x ∷ xs)) more in
+    elim (blank x) as (λ b. cond b (from_word xs) (x ∷ xs) ≡ drop (cond (not (not b)) (1 + position_or_len other xs) 0) (x ∷ xs)) [ true ↦ passed | false ↦ refl ]
 
 -- a word begins here
-pub from_here : (xs : List ℕ) (r : Bool) → 1 ≤ length xs → r ≡ blank (get_or xs 0 0) → r ≡ false → from_word xs ≡ xs
-from_here xs r h e f = from_more xs h ∙ ap (λ (b : Bool). cond b (from_word (after xs)) xs) (sym e ∙ f)
+pub from_here : (xs : List ℕ) (i : ℕ) → position other xs ≡ Some i → take (length xs - i) (drop i xs) ≡ from_word xs
+from_here xs i e = take_rest xs i ∙ sym (from_place xs ∙ ap (λ (n : ℕ). drop n xs) (some_place _ _ i e))
 
-pub from_end : (xs : List ℕ) → length xs < 1 → from_word xs ≡ xs
-from_end [] h = refl
-from_end (x ∷ xs) h = absurd (omega arith)
+-- no word is left
+pub from_nowhere : (xs : List ℕ) → position other xs ≡ None → from_word xs ≡ []
+from_nowhere xs e = from_place xs ∙ drop_all (position_or_len other xs) xs (no_place _ _ e)
 
-blank_at : (xs : List ℕ) (i : ℕ) (r t : Bool) → i < length xs → r ≡ blank (get_or xs i 0) → r ≡ t → before_blank (drop i xs) ≡ cond t [] (get_or xs i 0 ∷ before_blank (drop (i + 1) xs))
-blank_at xs i r t h e is = at_drop_more before_blank xs i 0 h ∙ ap (λ (b : Bool). cond b [] (get_or xs i 0 ∷ before_blank (drop (i + 1) xs))) (sym e ∙ is)
+one_longer : (x : ℕ) (xs : List ℕ) → length (before_blank (x ∷ xs)) ≡ cond (blank x) 0 (1 + length (before_blank xs))
+one_longer x xs = elim (blank x) as (λ b. length (cond b [] (x ∷ before_blank xs)) ≡ cond b 0 (1 + length (before_blank xs))) [ true ↦ refl | false ↦ omega arith ]
 
--- a blank ends the word
-pub word_ends : (xs : List ℕ) (i : ℕ) (r : Bool) → i < length xs → r ≡ blank (get_or xs i 0) → r ≡ true → length (before_blank (drop i xs)) ≡ 0
-word_ends xs i r h e t = ap length (blank_at xs i r true h e t)
-
--- any other byte belongs to it
-pub word_goes_on : (xs : List ℕ) (i : ℕ) (r : Bool) → i < length xs → r ≡ blank (get_or xs i 0) → r ≡ false → length (before_blank (drop i xs)) ≡ length (before_blank (drop (i + 1) xs)) + 1
-word_goes_on xs i r h e f = omega (arith, ap length (blank_at xs i r false h e f))
+blank_place : (xs : List ℕ) → length (before_blank xs) ≡ position_or_len blank xs
+blank_place xs = is_position_or_len (λ ys. length (before_blank ys)) blank refl one_longer xs
 
 pub word_fits : (xs : List ℕ) → length (before_blank xs) ≤ length xs
 word_fits [] = omega arith
 word_fits (x ∷ xs) = elim (blank x) as (λ b. length (cond b [] (x ∷ before_blank xs)) ≤ length (x ∷ xs)) [ true ↦ omega arith | false ↦ omega (arith, word_fits xs) ]
+
+-- the first blank ends the word, or the end of the line does
+pub word_ends : (xs : List ℕ) (found : Option ℕ) (n : ℕ) → found ≡ position blank xs → n ≡ unwrap_or found (length xs) → n ≡ length (before_blank xs)
+word_ends xs found n e is =
+    is ∙ ap (λ p. unwrap_or p (length xs)) e ∙ place_or_end _ _ (subst (λ (n : ℕ). n ≤ length xs) (blank_place xs) (word_fits xs)) ∙ sym (blank_place xs)
 
 word_taken : (xs : List ℕ) → take (length (before_blank xs)) xs ≡ before_blank xs
 word_taken [] = refl

@@ -1,8 +1,9 @@
 -- From one word to the next.
-use Rattle.std.proofs.Common.{◌≡◌, ℕ, List, [], ◌∷◌, Ok, Err, Result, sym, ap, subst, arith}
+use Rattle.std.proofs.Common.{◌≡◌, ℕ, List, [], ◌∷◌, Some, None, Ok, Err, Bor, Option, Result, sym, refl, ap, subst, arith}
+use Rattle.std.specs.Option.{ok_or}
 use Rattle.text.specs.declared.stop.Stop.{Stop}
 use Rattle.text.specs.declared.stop.Stop.TheVariants.{Unread, Memory}
-use Rattle.text.specs.Reads.{Read, Told, next, and_then}
+use Rattle.text.specs.Reads.{Read, Told, known, next}
 
 -- a word that is there is read
 pub at_word : {A : Type 0} (missing : List ℕ) (read : List ℕ → Read A) (ws : List (List ℕ)) (w : List ℕ) → next missing Ok ws ≡ Ok w → next missing read ws ≡ read w
@@ -18,11 +19,7 @@ told_missing view see missing read [] r (Unread why) e told = subst (λ v. Told 
 told_missing view see missing read (w ∷ ws) r (Unread why) e told = let z : ◌≡◌ {A = ℕ} 0 1 = cc in absurd (omega arith)
 told_missing view see missing read ws r Memory e told = subst (λ v. Told view v (next missing read ws)) (sym e) tt
 
--- reading stops where a word cannot be read
-pub told_stop : {A B C D : Type 0} (view : A → B) (see : C → D) (x : Read D) (f : D → Read B) (r : Result A Stop) (stop : Stop) → r ≡ Err stop → Told see (Err stop) x → Told view r (and_then x f)
-told_stop view see x f r (Unread why) e told = subst (λ v. Told view v (and_then x f)) (sym e) (ap (λ v. and_then v f) told)
-told_stop view see x f r Memory e told = subst (λ v. Told view v (and_then x f)) (sym e) tt
-
--- and goes on behind a word that is read
-pub told_on : {A B D : Type 0} (view : A → B) (x : Read D) (a : D) (f : D → Read B) (r : Result A Stop) → x ≡ Ok a → Told view r (f a) → Told view r (and_then x f)
-told_on view x a f r e told = subst (λ v. Told view r (and_then v f)) (sym e) told
+-- what may be missing is known, or the reason is told
+pub told_known : {A : Type 0} (r : Result A Stop) (found : Option A) (why : Bor (List ℕ)) → r ≡ ok_or found (Unread why) → Told (λ a. a) r (known why.now found)
+told_known r None why e = subst (λ v. Told (λ a. a) v (known why.now None)) (sym e) refl
+told_known r (Some a) why e = subst (λ v. Told (λ a. a) v (known why.now (Some a))) (sym e) refl

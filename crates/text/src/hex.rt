@@ -15,21 +15,20 @@ pub fn octets(heap: Global, word: &[u8]) -> Result<Vec<u8>, Stop>
     pairs(heap, word)
 }
 
+// Not the kit's hex decoder: that refuses an odd length before a byte that is no digit.
 /// Octets of two hex digits each.
 fn pairs(heap: Global, word: &[u8]) -> Result<Vec<u8>, Stop>
     ensures { Told vec_items result (pairs_read word.now) }
 {
     let mut octets = Vec::new(heap);
-    let mut rest = word;
-    while let [high, low, after @ ..] = rest {
-        let Some(x) = octet_of(*high, *low) else {
+    for pair in word.chunks(2) {
+        if pair.len() < 2 {
+            return Err(Stop::Unread("an octet has two hex digits"));
+        }
+        let Some(x) = octet(pair) else {
             return Err(Stop::Unread("octets are hex digits without blanks, or - for none"));
         };
         octets.push(x)?;
-        rest = after;
-    }
-    if !rest.is_empty() {
-        return Err(Stop::Unread("an octet has two hex digits"));
     }
     Ok(octets)
 }
@@ -38,7 +37,7 @@ fn pairs(heap: Global, word: &[u8]) -> Result<Vec<u8>, Stop>
 pub fn is_dash(word: &[u8]) -> bool
     ensures { result ≡ dash word.now }
 {
-    word.len() == 1 && word[0] == b'-'
+    matches!(word, b"-")
 }
 
 /// An octet: two hex digits.
@@ -60,16 +59,14 @@ pub fn address(word: &[u8]) -> Option<u16>
     };
     let high = octet_of(*a, *b)?;
     let low = octet_of(*c, *d)?;
-    Some(256 * u16::from(high) + u16::from(low))
+    Some(u16::from_be_bytes([high, low]))
 }
 
 /// An octet from two hex digits.
 fn octet_of(high: u8, low: u8) -> Option<u8>
     ensures { result ≡ octet_value high low }
 {
-    let upper = digit(high)?;
-    let lower = digit(low)?;
-    Some(16 * upper + lower)
+    Some(16 * digit(high)? + digit(low)?)
 }
 
 /// The value of a hex digit in either case.
@@ -77,10 +74,6 @@ fn digit(b: u8) -> Option<u8>
     ensures value { result ≡ digit_value b }
     ensures small { IfSome result (λ d. d < 16) }
 {
-    match b {
-        b'0'..=b'9' => Some(b - b'0'),
-        b'A'..=b'F' => Some(b - b'A' + 10),
-        b'a'..=b'f' => Some(b - b'a' + 10),
-        _ => None,
-    }
+    let digit = char::from(b).to_digit(16)?;
+    Some(digit as u8)
 }

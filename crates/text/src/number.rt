@@ -1,5 +1,5 @@
 ghost use Rattle.std.specs.Prelude.{◌≡◌, ◌≤◌, IfSome};
-ghost use Rattle.text.specs.Figures.{between, number_word};
+ghost use Rattle.text.specs.Figures.{number_word};
 
 /// A decimal number up to `most`.
 pub fn number(word: &[u8], most: u32) -> Option<u32>
@@ -9,21 +9,13 @@ pub fn number(word: &[u8], most: u32) -> Option<u32>
     if word.is_empty() {
         return None;
     }
-    let mut n = 0u64;
+    let mut n = 0u32;
     for b in word {
-        if !is_digit(*b) {
-            return None;
-        }
-        n = 10 * n + u64::from(*b - b'0');
-        if n > u64::from(most) {
+        let digit = char::from(*b).to_digit(10)?;
+        n = n.checked_mul(10)?.checked_add(digit)?;
+        if n > most {
             return None;
         }
     }
-    Some(n as u32)
-}
-
-fn is_digit(b: u8) -> bool
-    ensures { result ≡ between 48 57 b }
-{
-    matches!(b, b'0'..=b'9')
+    Some(n)
 }

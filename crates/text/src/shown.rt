@@ -1,7 +1,6 @@
 //! How octets, addresses and decimal numbers are written.
-ghost use Rattle.std.specs.Prelude.{◌≡◌, ◌<◌, Some, unsigned_abs};
-ghost use Rattle.std.specs.Fmt.{WritesOnOk};
-ghost use Rattle.text.specs.Texts.{digit_text, octet_text, octets_text, address_text, sign_text, tenths_text, hundredths_text};
+ghost use Rattle.std.specs.Prelude.{◌≡◌, Some};
+ghost use Rattle.text.specs.Texts.{octets_text, address_text, sign_text, tenths_text, hundredths_text};
 
 use std::fmt;
 
@@ -17,8 +16,8 @@ impl<'a> fmt::Display for Hex<'a> {
         if octets.is_empty() {
             return f.write_str("-");
         }
-        for x in octets {
-            write_octet(f, *x)?;
+        for &x in octets {
+            write!(f, "{x:02X}")?;
         }
         Ok(())
     }
@@ -32,25 +31,8 @@ impl fmt::Display for Address {
     ghost output = { λ a. Some (address_text a.0) };
 
     fn fmt<W: fmt::Write>(&self, f: &mut fmt::Formatter<W>) -> fmt::Result {
-        write_octet(f, (self.0 / 256) as u8)?;
-        write_octet(f, (self.0 % 256) as u8)
+        f.write(Hex(&self.0.to_be_bytes()))
     }
-}
-
-fn write_octet<W: fmt::Write>(f: &mut fmt::Formatter<W>, octet: u8) -> fmt::Result
-    ensures { WritesOnOk W.Write.write_str_gives f.old result (octet_text octet) f.new }
-{
-    f.write_char(figure(octet / 16) as char)?;
-    f.write_char(figure(octet % 16) as char)
-}
-
-/// A capital hex digit.
-fn figure(d: u8) -> u8
-    requires { d < 16 }
-    ensures value { result ≡ digit_text d }
-    ensures ascii { result < 128 }
-{
-    if d < 10 { b'0' + d } else { b'A' + (d - 10) }
 }
 
 /// A number of tenths, written exactly: -5 is -0.5.
@@ -62,13 +44,14 @@ impl fmt::Display for Tenths {
 
     fn fmt<W: fmt::Write>(&self, f: &mut fmt::Formatter<W>) -> fmt::Result {
         let sign = sign(self.0);
-        let size = size(self.0);
+        let size = self.0.unsigned_abs();
         let whole = size / 10;
         let tenth = size % 10;
         write!(f, "{sign}{whole}.{tenth}")
     }
 }
 
+// Not one form with `Tenths`: it would be handed the count of figures behind the point, and name it at each use.
 /// A number of hundredths, written exactly: -5 is -0.05.
 #[derive(Clone, Copy)]
 pub struct Hundredths(pub i16);
@@ -78,7 +61,7 @@ impl fmt::Display for Hundredths {
 
     fn fmt<W: fmt::Write>(&self, f: &mut fmt::Formatter<W>) -> fmt::Result {
         let sign = sign(self.0);
-        let size = size(self.0);
+        let size = self.0.unsigned_abs();
         let whole = size / 100;
         let tenth = size / 10 % 10;
         let hundredth = size % 10;
@@ -91,10 +74,4 @@ fn sign(n: i16) -> &'static str
     ensures { result.now ≡ sign_text n }
 {
     if n < 0 { "-" } else { "" }
-}
-
-fn size(n: i16) -> u16
-    ensures { result ≡ unsigned_abs n }
-{
-    n.unsigned_abs()
 }

@@ -1,8 +1,9 @@
-ghost use Rattle.std.specs.Prelude.{◌≡◌, ◌≤◌, [], ◌∷◌, length, IfOk, Ok, vec_items, MatchOption};
+ghost use Rattle.std.specs.Prelude.{◌≡◌, ◌≤◌, not, [], ◌∷◌, IfOk, IfErr, Ok, position, vec_items, MatchOption};
 ghost use Rattle.std.specs.Str.{bytes_eq};
 ghost use Rattle.text.specs.Figures.{number_word, address_word, octets_read};
+ghost use Rattle.text.specs.declared.stop.Stop.TheVariants.{Unread};
 ghost use Rattle.text.specs.Reads.{Told, known, next, whole};
-ghost use Rattle.text.specs.Words.{blank, from_word, before_blank, to_come, behind, none_left, words_from};
+ghost use Rattle.text.specs.Words.{blank, from_word, to_come, behind, none_left, words_from};
 
 use crate::hex::{address, octets};
 use crate::number::number;
@@ -28,7 +29,7 @@ impl<'a> Words<'a> {
         ensures left { to_come self.new ≡ behind (to_come self.old) }
     {
         let line = from_word(self.rest);
-        let size = word_length(line);
+        let size = first_blank(line).unwrap_or(line.len());
         let (word, rest) = line.split_at(size);
         self.rest = rest;
         if word.is_empty() { None } else { Some(word) }
@@ -37,13 +38,13 @@ impl<'a> Words<'a> {
     /// The next word, which has to be there.
     pub fn want(&mut self, missing: &'static str) -> Result<&'a [u8], Stop>
         ensures word { Told (λ x. x.now) result (next missing.now Ok (to_come self.old)) }
+        ensures why { IfErr result (λ stop. stop ≡ Unread missing.entry) }
         ensures left { to_come self.new ≡ behind (to_come self.old) }
     {
-        match self.take() {
-            Some(word) => Ok(word),
-            None => Err(Stop::Unread(missing)),
-        }
+        self.take().ok_or(Stop::Unread(missing))
     }
+
+    // The three that follow take no closure for the reading: to want a word and read it is one expression.
 
     /// The next word as a decimal number up to `most`.
     pub fn number(
@@ -56,11 +57,7 @@ impl<'a> Words<'a> {
         ensures bound { IfOk result (λ n. n ≤ most) }
         ensures left { to_come self.new ≡ behind (to_come self.old) }
     {
-        let word = self.want(missing)?;
-        match number(word, most) {
-            Some(n) => Ok(n),
-            None => Err(Stop::Unread(wrong)),
-        }
+        number(self.want(missing)?, most).ok_or(Stop::Unread(wrong))
     }
 
     /// The next word as an address.
@@ -68,11 +65,7 @@ impl<'a> Words<'a> {
         ensures word { Told (λ a. a) result (next missing.now (λ w. known wrong.now (address_word w)) (to_come self.old)) }
         ensures left { to_come self.new ≡ behind (to_come self.old) }
     {
-        let word = self.want(missing)?;
-        match address(word) {
-            Some(a) => Ok(a),
-            None => Err(Stop::Unread(wrong)),
-        }
+        address(self.want(missing)?).ok_or(Stop::Unread(wrong))
     }
 
     /// The next word as a string of octets.
@@ -112,30 +105,28 @@ pub fn is(word: &[u8], name: &str) -> bool
 fn from_word(line: &[u8]) -> &[u8]
     ensures { result.now ≡ from_word line.now }
 {
-    let mut rest = line;
-    while let [first, after @ ..] = rest {
-        if !is_blank(*first) {
-            break;
-        }
-        rest = after;
+    match first_other(line) {
+        Some(start) => &line[start..],
+        None => &[],
     }
-    rest
 }
 
-/// How many bytes stand before the first blank.
-fn word_length(line: &[u8]) -> usize
-    ensures { result ≡ length (before_blank line.now) }
+/// Where the first byte stands that is no blank.
+fn first_other(line: &[u8]) -> Option<usize>
+    ensures { result ≡ position (λ b. not (blank b)) line.now }
 {
-    for (i, b) in line.iter().enumerate() {
-        if is_blank(*b) {
-            return i;
-        }
-    }
-    line.len()
+    line.iter().position(|b| !is_blank(*b))
+}
+
+/// Where the first blank stands.
+fn first_blank(line: &[u8]) -> Option<usize>
+    ensures { result ≡ position blank line.now }
+{
+    line.iter().position(|b| is_blank(*b))
 }
 
 fn is_blank(b: u8) -> bool
     ensures { result ≡ blank b }
 {
-    b == b' ' || b == b'\t' || b == b'\r'
+    matches!(b, b' ' | b'\t' | b'\r')
 }

@@ -1,14 +1,12 @@
-//! wln: reads commands from standard input, one to a line, and prints what was done.
+//! wln_commands: as wln, but `hear` also takes the pile `blocks`, and over octets a unit.
 #![tactic(auto)]
 
-mod terminal;
-
-use crate::terminal::Terminal;
-use commands::serve;
+use commands::terminal::Terminal;
+use commands::{Piles, serve};
 use std::io;
 
 fn main(rt: HostRuntime) -> io::Result<()> {
     let mut terminal = Terminal::new(&rt)?;
-    serve(&mut terminal)?;
+    serve(&mut terminal, Piles::Trial)?;
     terminal.flush()
 }

@@ -3,12 +3,9 @@ use Rattle.std.proofs.lemmas.List.{length-drop, nil_from_length}
 use Rattle.radio.specs.Reception.{Reception}
 use Rattle.coding.specs.Regroup.{regroup, left_over, left_over_first, Cut, cut}
 use Rattle.coding.specs.Grouping.{Grouping, decoded, ending_above}
-use Rattle.coding.specs.Lift.{layer_laws}
+use Rattle.coding.specs.Lift.{some_coded, layer_laws}
 use Rattle.coding.specs.Statements.{Decoding}
 use Rattle.coding.proofs.laws.layers_hold.Goals as goal
-
-some_coded : (c : Grouping) → 1 ≤ c.coded
-some_coded c = omega (arith, c.some, c.no_less)
 
 decodes : (c : Grouping) (below : Reception) → Decoding c below (decoded c below)
 decodes c below = record {

@@ -6,6 +6,6 @@ use Rattle.commands.proofs.words.ear.Goals as goal
 
 pub returns : goal.returns
 returns c = record {
-  word = told_word (λ x. x) c.ear_of.result (codes "PILE is missing") (ear_word c.args.bottom) (to_come c.args.words.now) c.in_ok-want.field-0.now c.in_ok-want.ensures.word c.ear_of.ensures;
+  word = told_word (λ x. x) c.ear_of.result (codes "PILE is missing") (ear_word c.args.piles c.args.bottom) (to_come c.args.words.now) c.in_ok-want.field-0.now c.in_ok-want.ensures.word c.ear_of.ensures;
   left = c.want.ensures.left;
 }

@@ -1,59 +1,26 @@
-use Rattle.std.proofs.Common.{◌≡◌, ℕ, ◌+◌, ◌-◌, ◌<◌, ◌≤◌, cond, leb, List, [], ◌∷◌, ◌++◌, length, get_or, take, drop, sym, ap, ◌∙◌, arith, eq-eqb, ne_eqb}
-use Rattle.std.proofs.lemmas.List.{append-nil, append_assoc, take_more, drop_more, take_all, drop_all}
-use Rattle.std.proofs.lemmas.Bool.{le-leb, lt-leb}
+use Rattle.std.proofs.Common.{◌≡◌, ◌-◌, take, Some, None, sym, ap, ◌∙◌, arith, rules, tests}
+use Rattle.std.specs.Option.{option_map}
+use Rattle.std.proofs.lemmas.Iterator.{YieldsList-from_slice}
+use Rattle.std.proofs.lemmas.Iterator.Consumers.{nth_from_yields_List, YieldsList-from_filter, YieldsList-from_enumerate}
 use Rattle.figures.specs.Tallies.{first_words}
+use Rattle.figures.proofs.Words.{blank, Front, words_front}
 use Rattle.figures.proofs.tally.words.Goals as goal
-use Rattle.figures.proofs.tally.words.Goals.{then-byte-eq32+else-left-le1, else-byte-eq32}
+use Rattle.figures.proofs.tally.words.Goals.{After-nth}
 
-module _ (n : ℕ) (xs : List ℕ) (i : ℕ) (l : i < length xs) where
-  here : first_words n (drop i xs) ≡ first_words n (get_or xs i 0 ∷ drop (i + 1) xs)
-  here = ap (first_words n) (drop_more xs i 0 l)
+front : (c : After-nth) → Front (first_words c.args.count c.args.line.now) 0 c.args.line.now (option_map (λ p. (p.0, p.1.now)) c.nth.result)
+front c =
+    words_front c.args.count c.args.line.now c.saturating_sub.result (option_map (λ p. (p.0, p.1.now)) c.nth.result)
+    (nth_from_yields_List c.nth.result _ c.saturating_sub.result c.nth.ensures.ran
+    (YieldsList-from_filter _ blank (YieldsList-from_enumerate (YieldsList-from_slice c.args.line.now cc) cc) c.filter-blanks.ensures.closure (λ x b q k. search (rules, tests))))
+    c.saturating_sub.ensures
 
-  passed : (m : ℕ) → take i xs ++ (get_or xs i 0 ∷ first_words m (drop (i + 1) xs)) ≡ take (i + 1) xs ++ first_words m (drop (i + 1) xs)
-  passed m = sym (append_assoc (take i xs) (get_or xs i 0 ∷ []) (first_words m (drop (i + 1) xs))) ∙ ap (λ z. z ++ first_words m (drop (i + 1) xs)) (sym (take_more xs i 0 l))
+pub returns-in-Some : goal.returns-in-Some
+returns-in-Some c =
+    let f : Front (first_words c.args.count c.args.line.now) 0 c.args.line.now (Some (c.in-Some.end, c.in-Some.field-0-1.now)) = rw c.in-Some.is at (front (goal.at.returns-in-Some c).After-nth) in
+    let z : c.in-Some.end - 0 ≡ c.in-Some.end = omega arith in
+    sym (f.1 ∙ ap (λ k. take k c.args.line.now) z)
 
-  last_blank : get_or xs i 0 ≡ 32 → n ≤ 1 → first_words n (drop i xs) ≡ []
-  last_blank e h =
-      here ∙ ap (λ t. cond t (cond (leb n 1) [] (get_or xs i 0 ∷ first_words (n - 1) (drop (i + 1) xs))) (get_or xs i 0 ∷ first_words n (drop (i + 1) xs))) (eq-eqb (get_or xs i 0) 32 e)
-      ∙ ap (λ t. cond t [] (get_or xs i 0 ∷ first_words (n - 1) (drop (i + 1) xs))) (le-leb n 1 h)
-
-  a_blank : get_or xs i 0 ≡ 32 → 1 < n → first_words n (drop i xs) ≡ get_or xs i 0 ∷ first_words (n - 1) (drop (i + 1) xs)
-  a_blank e h =
-      here ∙ ap (λ t. cond t (cond (leb n 1) [] (get_or xs i 0 ∷ first_words (n - 1) (drop (i + 1) xs))) (get_or xs i 0 ∷ first_words n (drop (i + 1) xs))) (eq-eqb (get_or xs i 0) 32 e)
-      ∙ ap (λ t. cond t [] (get_or xs i 0 ∷ first_words (n - 1) (drop (i + 1) xs))) (lt-leb n 1 h)
-
-  no_blank : (get_or xs i 0 ≡ 32 → ⊥) → first_words n (drop i xs) ≡ get_or xs i 0 ∷ first_words n (drop (i + 1) xs)
-  no_blank e = here ∙ ap (λ t. cond t (cond (leb n 1) [] (get_or xs i 0 ∷ first_words (n - 1) (drop (i + 1) xs))) (get_or xs i 0 ∷ first_words n (drop (i + 1) xs))) (ne_eqb (get_or xs i 0) 32 e)
-
-less : (k : ℕ) → k - 0 ≡ k
-less k = omega arith
-
-pub returns-then-left-le1 : goal.returns-then-left-le1
-returns-then-left-le1 c =
-    let xs = c.args.line.now in
-    let i = c.loop-i.i in
-    ap (λ k. take k xs) (less i)
-    ∙ sym (c.loop-i.invariant ∙ ap (λ z. take i xs ++ z) (last_blank c.loop-i.left xs i c.loop-i-test.true c.if-byte-eq32.true c.if-left-le1.true) ∙ append-nil (take i xs))
-
-pub loop-i-preserved : goal.loop-i-preserved
-loop-i-preserved c =
-    let xs = c.args.line.now in
-    let i = c.loop-i.i in
-    let n = c.loop-i.left in
-    let l = c.loop-i-test.true in
-    elim c.if-byte-eq32.branch [
-      | then-byte-eq32+else-left-le1 w ↦ c.loop-i.invariant
-          ∙ ap (λ z. take i xs ++ z) (a_blank n xs i l w.if-byte-eq32.true w.if-left-le1.false)
-          ∙ passed n xs i l (n - 1)
-          ∙ ap (λ m. take (i + 1) xs ++ first_words m (drop (i + 1) xs)) (sym w.left-is)
-      | else-byte-eq32 w ↦ c.loop-i.invariant
-          ∙ ap (λ z. take i xs ++ z) (no_blank n xs i l w.if-byte-eq32.false)
-          ∙ passed n xs i l n
-          ∙ ap (λ m. take (i + 1) xs ++ first_words m (drop (i + 1) xs)) (sym w.left-is)
-    ]
-
-pub returns : goal.returns
-returns c =
-    let xs = c.args.line.now in
-    let i = c.loop-i.i in
-    sym (c.loop-i.invariant ∙ ap (λ z. take i xs ++ first_words c.loop-i.left z) (drop_all i xs c.loop-i-test.false) ∙ append-nil (take i xs) ∙ take_all i xs c.loop-i-test.false)
+pub returns-in-None : goal.returns-in-None
+returns-in-None c =
+    let f : Front (first_words c.args.count c.args.line.now) 0 c.args.line.now None = rw c.in-None.is at (front (goal.at.returns-in-None c).After-nth) in
+    sym f

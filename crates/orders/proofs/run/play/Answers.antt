@@ -1,46 +1,16 @@
-use Rattle.std.proofs.Common.{Result, sym, refl, subst}
-use Rattle.refusal.specs.declared.Refusal.{Refusal}
-use Rattle.radio.specs.Outlets.{Leaves}
-use Rattle.message.specs.Parts.{items}
-use Rattle.orders.specs.declared.order.Order.{Order}
-use Rattle.orders.specs.declared.order.Outcome.TheVariants.{Sent as WasSent, Refused}
-use Rattle.orders.specs.Runs.{Step}
-use Rattle.orders.specs.Sending.{Sent, send_refusal}
-use Rattle.orders.proofs.Playing.{send_accepted, send_refused}
+use Rattle.std.proofs.Common.{Ok, Err, ap, ◌∙◌}
+use Rattle.std.proofs.lemmas.Result.{err_from_is_err_and}
+use Rattle.orders.proofs.Playing.{send_step}
 use Rattle.orders.proofs.run.play.Goals as goal
 
-pub returns-in-Err-send : goal.returns-in-Err-send
-returns-in-Err-send g c =
-    let st = c.args.station.now in
-    let h = g.L.Line.heard c.args.line.now in
-    let o = c.args.outlet.now in
-    let o' = c.send.new.outlet in
-    let m = items c.in-Send.message.octets in
-    let p = c.in-Send.preamble in
-    let e = c.in-Err-send.ensures in
-    record {
-      own = refl;
-      step = subst (λ (z : Order). Step g.O.Outlet.state st.own z (Refused c.in-Err-send.refusal) (record { filters = st.filters; heard = h; outlet = o }) (record { filters = st.filters; heard = h; outlet = o' })) (sym c.in-Send.is) (
-        send_refused (send_refusal p m (g.O.Outlet.state o)) c.in-Err-send.refusal e.answers,
-        refl,
-        subst (λ (z : Result (Unit {0}) Refusal). Leaves (Sent p m) g.O.Outlet.state z o o') e.answers e.leaves,
-      );
-    }
+-- src/run.rt:59:13
+pub returns-in_err-send-in-Send-clause-step : goal.returns-in_err-send-in-Send-clause-step
+returns-in_err-send-in-Send-clause-step g c =
+    let e = err_from_is_err_and c.from_residual-in_err-send-in-Send.result c.from_residual-in_err-send-in-Send.ensures.1 in
+    let r = e.1 ∙ ap Err e.2 in
+    rw (c.in-Send.is, r) (send_step g.O.Outlet.state c.args.station.now.own c.in-Send.message c.in-Send.preamble _ _ _ _ (Err _) c.in_err-send-in-Send.ensures.answers c.in_err-send-in-Send.ensures.leaves)
 
-pub returns-in-Ok-send : goal.returns-in-Ok-send
-returns-in-Ok-send g c =
-    let st = c.args.station.now in
-    let h = g.L.Line.heard c.args.line.now in
-    let o = c.args.outlet.now in
-    let o' = c.send.new.outlet in
-    let m = items c.in-Send.message.octets in
-    let p = c.in-Send.preamble in
-    let e = c.in-Ok-send.ensures in
-    record {
-      own = refl;
-      step = subst (λ (z : Order). Step g.O.Outlet.state st.own z WasSent (record { filters = st.filters; heard = h; outlet = o }) (record { filters = st.filters; heard = h; outlet = o' })) (sym c.in-Send.is) (
-        send_accepted (send_refusal p m (g.O.Outlet.state o)) e.answers,
-        refl,
-        subst (λ (z : Result (Unit {0}) Refusal). Leaves (Sent p m) g.O.Outlet.state z o o') e.answers e.leaves,
-      );
-    }
+-- src/run.rt:35:1
+pub returns-in_ok-send-in-Send-clause-step : goal.returns-in_ok-send-in-Send-clause-step
+returns-in_ok-send-in-Send-clause-step g c =
+    rw c.in-Send.is (send_step g.O.Outlet.state c.args.station.now.own c.in-Send.message c.in-Send.preamble _ _ _ _ (Ok tt) c.in_ok-send-in-Send.ensures.answers c.in_ok-send-in-Send.ensures.leaves)

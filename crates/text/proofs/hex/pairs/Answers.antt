@@ -1,24 +1,12 @@
-use Rattle.std.proofs.Common.{◌≡◌, ◌<◌, ◌≤◌, length, vec_items, arith, rules, ltb-false, ltb-true}
-use Rattle.std.proofs.lemmas.Result.{err_from_is_err_and}
+use Rattle.std.proofs.Common.{◌≡◌, length, vec_items, arith}
+use Rattle.std.specs.Slice.Iter.{chunks_rest}
 use Rattle.text.specs.Figures.{pairs_read}
-use Rattle.text.proofs.Hexes.{pairs_step, pairs_bad, pairs_odd}
+use Rattle.text.proofs.Hexes.{pairs_step}
 use Rattle.text.proofs.hex.pairs.Goals as goal
 
-pub returns-in_default-octet_of : goal.returns-in_default-octet_of
-returns-in_default-octet_of c =
-    let two : 2 ≤ length c.loop-rest.rest.now = omega (arith, ltb-false) in
-    pairs_bad c.loop-rest.rest.now (vec_items c.loop-rest.octets) (pairs_read c.args.word.now) two c.in_default-octet_of.ensures c.loop-rest.invariant
-
-pub returns-in_err-push : goal.returns-in_err-push
-returns-in_err-push c = let p = err_from_is_err_and c.from_residual.result c.from_residual.ensures.1 in rw (p.1, p.2) tt
-
-pub loop-rest-preserved : goal.loop-rest-preserved
-loop-rest-preserved c =
-    let two : 2 ≤ length c.loop-rest.rest.now = omega (arith, ltb-false) in
-    pairs_step c.loop-rest.rest.now (vec_items c.loop-rest.octets) (vec_items c.push.new.self) c.in-Some.x (pairs_read c.args.word.now) two c.in-Some.ensures c.in_ok-push.ensures.items c.loop-rest.invariant
-
-pub returns-then-not-is_empty : goal.returns-then-not-is_empty
-returns-then-not-is_empty c =
-    let few : length c.loop-rest.rest.now < 2 = omega (arith, ltb-true) in
-    let one : length c.loop-rest.rest.now ≡ 1 = search rules in
-    pairs_odd c.loop-rest.rest.now (vec_items c.loop-rest.octets) (pairs_read c.args.word.now) one c.loop-rest.invariant
+pub loop-pair-preserved : goal.loop-pair-preserved
+loop-pair-preserved c =
+    let inv = c.loop-pair.invariant in
+    let steps = c.in-Some.ensures.steps in
+    let two : length c.in-Some.pair.now ≡ 2 = omega (arith, steps) in
+    (omega (arith, steps), pairs_step (chunks_rest c.loop-pair.pair-iterator) c.in-Some.pair.now (chunks_rest c.next.new.self) (vec_items c.loop-pair.octets) (vec_items c.push.new.self) c.in-Some-octet.x (pairs_read c.args.word.now) steps.1.0 two c.in-Some-octet.ensures c.in_ok-push.ensures.items inv.1)

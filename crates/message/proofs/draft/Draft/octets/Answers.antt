@@ -1,12 +1,13 @@
-use Rattle.std.proofs.Common.{◌≡◌, ℕ, ◌+◌, ◌%◌, ◌<◌, true, cond, leb, List, ◌++◌, length, get_or, sum, sym, ap, ◌∙◌, subst, arith, rules}
+use Rattle.std.proofs.Common.{◌≡◌, ℕ, ◌%◌, ◌<◌, get_or, sum, ap, ◌∙◌, arith, rules}
 use Rattle.std.proofs.ByRecursion.{All-take, All-from_get_or}
-use Rattle.message.specs.Message.{Admissible, message, lawful, head}
+use Rattle.message.specs.Message.{Admissible, front}
 use Rattle.message.specs.Parts.{items}
+use Rattle.message.specs.Held.{payload_of, message_of}
 use Rattle.message.proofs.Format.{is_lawful, lawful_tested, format}
-use Rattle.message.proofs.Sealing.{items_length, sealed_is}
+use Rattle.message.proofs.Sealing.{items_length, sum_octets}
 use Rattle.message.proofs.draft.Draft.octets.Goals as goal
 
-fields : (c : goal.After-append-3) → Admissible c.args.self.header.kind c.args.self.header.destination c.args.self.header.source (items c.args.self.payload)
+fields : (c : goal.After-append-3) → Admissible c.args.self.header.kind c.args.self.header.destination c.args.self.header.source (payload_of c.args.self)
 fields c =
     let b = c.args.self.payload in
     let octet : (i : ℕ) → get_or b.octets i 0 < 256 = λ i. search rules in
@@ -17,34 +18,21 @@ fields c =
       short = omega (arith, b.within);
     }
 
-made : (c : goal.After-append-3) → items c.append-3.new.self ≡ message c.args.self.header.kind c.args.self.header.destination c.args.self.header.source (items c.args.self.payload)
+made : (c : goal.After-append-3) → items c.append-3.new.self ≡ message_of c.args.self
 made c =
     let h = c.args.self.header in
-    let p = items c.args.self.payload in
-    let b₀ = c.empty-octets.result in
-    let b₁ = c.append.new.self in
-    let b₂ = c.append-2.new.self in
-    let given : c.as_slice-payload.result.now ≡ p = c.as_slice-payload.ensures in
-    let top : items c.head-head.result ≡ head h.kind h.destination h.source (length p) =
-    c.head-head.ensures ∙ ap (λ xs. head h.kind h.destination h.source (length xs)) given in
-    sealed_is h.kind h.destination h.source p (fields c)
-    c.as_slice.result.now (items b₀) (items b₁) (items b₂) (items c.append-3.new.self) c.to_be_bytes.result c.append.result c.append-2.result c.append-3.result c.checksum-sum.result
-    (c.as_slice.ensures ∙ top) c.empty-octets.ensures.holds
-    (c.append.ensures.fits ∙ ap (λ n. leb (n + length c.as_slice.result.now) 74) (sym (items_length b₀)))
-    c.append.ensures.holds
-    (c.append-2.ensures.fits ∙ ap (λ n. leb (n + length c.as_slice-payload.result.now) 74) (sym (items_length b₁)) ∙ ap (λ xs. leb (length (items b₁) + length xs) 74) given)
-    (c.append-2.ensures.holds ∙ ap (λ xs. cond c.append-2.result (items b₁ ++ xs) (items b₁)) given)
-    (c.checksum-sum.ensures ∙ ap (λ xs. sum xs % 65536) c.as_slice-2.ensures) c.to_be_bytes.ensures
-    (c.append-3.ensures.fits ∙ ap (λ n. leb (n + length c.to_be_bytes.result) 74) (sym (items_length b₂)))
-    c.append-3.ensures.holds
+    let p = payload_of c.args.self in
+    let before : items c.append-2.new.self ≡ front h.kind h.destination h.source p =
+    rw (c.append-2.ensures, c.append.ensures, c.empty-octets.ensures, c.as_slice.ensures, c.head-head.ensures, c.as_slice-payload.ensures) in
+    let total = c.checksum-sum.ensures ∙ ap (λ xs. sum xs % 65536) (c.as_slice-2.ensures ∙ before) in
+    let end = c.to_be_bytes.ensures ∙ sum_octets h.kind h.destination h.source p (fields c) c.checksum-sum.result total in
+    rw (c.append-3.ensures, before, end)
 
-pub returns : goal.returns
-returns c =
-    let h = c.args.self.header in
-    let p = items c.args.self.payload in
-    let m = message h.kind h.destination h.source p in
-    record {
-      made = made c;
-      lawful = subst (λ (xs : List ℕ). lawful xs ≡ true) (sym (made c)) ((lawful_tested m).1 (is_lawful h.kind h.destination h.source p (fields c)));
-      format = format;
-    }
+pub returns-clause-made : goal.returns-clause-made
+returns-clause-made c = made c
+
+pub returns-clause-lawful : goal.returns-clause-lawful
+returns-clause-lawful c = rw (made c) ((lawful_tested _).1 (is_lawful _ _ _ _ (fields c)))
+
+pub returns-clause-format : goal.returns-clause-format
+returns-clause-format c = format

@@ -1,54 +1,25 @@
-use Rattle.std.proofs.Common.{◌≡◌, ℕ, ◌+◌, ◌-◌, ◌<◌, min, List, [], ◌∷◌, ◌++◌, length, take, Ok, sym, ap, ◌∙◌, subst, arith}
+use Rattle.std.proofs.Common.{◌≡◌, ℕ, ◌+◌, ◌<◌, List, [], ◌∷◌, ◌++◌, length, Ok, sym, ap, ◌∙◌, subst, arith, rules}
 use Rattle.radio.specs.declared.turn.Turn.TheVariants.{Owing}
-use Rattle.radio.specs.Outlets.{Put, answer, put_refusal}
-use Rattle.radio.proofs.States.{put_accepted, did_ok}
-use Rattle.sending.specs.Outgoing.{turn_over, held_back}
-use Rattle.sending.proofs.Outgoing.{held_length, held_put, held_full, held_none, held_on, group_accepted, written_on}
+use Rattle.radio.specs.Outlets.{Put}
+use Rattle.radio.proofs.States.{did_ok}
+use Rattle.sending.specs.Outgoing.{turn_over}
+use Rattle.sending.proofs.Outgoing.{group_accepted, written_on}
 use Rattle.sending.proofs.half.SendingOutlet.put.Goals as goal
 
-pub returns-then-held-plain : goal.returns-then-held-plain
-returns-then-held-plain g c =
-    let s = c.args.self.now in
-    let k = g.C.Coding.grouping in
-    let b = g.O.Outlet.state s.below in
-    let held = held_back k s.held s.group in
-    let hd = c.min-held.result in
-    let x = c.args.octet in
-    let n = c.in-Owing.n in
-    let m : hd ≡ min s.held (k.plain - 1) = c.min-held.ensures ∙ ap (λ p. min s.held (p - 1)) c.plain-plain.ensures in
-    let l = held_length k s.group s.long s.held in
-    let p = c.plain-plain.ensures in
-    let short : hd + 1 < k.plain = let t = c.if-held-plain.true in omega arith in
-    let owes : turn_over k.plain k.coded b.turn (length held) ≡ Owing n = sym c.in-Owing.ensures in
-    let put : held_back k (hd + 1) c.with_octet-group.result ≡ held ++ (x ∷ []) = ap (held_back k (hd + 1)) c.with_octet-group.ensures ∙ held_put k s.group s.long s.held hd x m short in
-    record {
-      answers = put_accepted 1 n (turn_over k.plain k.coded b.turn (length held)) owes c.if-n-gt0.true;
-      leaves = held_on k held b x n owes c.if-n-gt0.true (held_back k (hd + 1) c.with_octet-group.result) (g.O.Outlet.sound s.below) put (omega arith);
-    }
-
-pub returns : goal.returns
-returns g c =
+pub returns-clause-leaves : goal.returns-clause-leaves
+returns-clause-leaves g c =
     let s = c.args.self.now in
     let k = g.C.Coding.grouping in
     let b = g.O.Outlet.state s.below in
     let b' = g.O.Outlet.state c.put_group.new.below in
-    let held = held_back k s.held s.group in
-    let hd = c.min-held.result in
+    let held = s.held.items in
     let x = c.args.octet in
-    let n = c.in-Owing.n in
-    let m : hd ≡ min s.held (k.plain - 1) = c.min-held.ensures ∙ ap (λ p. min s.held (p - 1)) c.plain-plain.ensures in
-    let l = held_length k s.group s.long s.held in
-    let p = c.plain-plain.ensures in
-    let full : hd + 1 ≡ k.plain = let t = c.if-held-plain.false in let a = k.some in omega arith in
-    let whole : length held + 1 ≡ k.plain = omega arith in
-    let owes : turn_over k.plain k.coded b.turn (length held) ≡ Owing n = sym c.in-Owing.ensures in
-    let code : k.code (take k.plain c.with_octet-group.result) ≡ k.code (held ++ (x ∷ [])) =
-    ap k.code (ap (take k.plain) c.with_octet-group.ensures ∙ held_full k s.group s.long s.held hd x m full) in
-    let ok : c.put_group.result ≡ Ok tt =
-    c.put_group.ensures.answers ∙ ap (λ ys. answer (put_refusal (length ys) b.turn)) code ∙ sym (group_accepted k held b x n owes c.if-n-gt0.true whole) in
-    let put : Put (k.code (held ++ (x ∷ []))) b b' =
-    subst (λ (ys : List ℕ). Put ys b b') code (did_ok (Put (k.code (take k.plain c.with_octet-group.result))) g.O.Outlet.state c.put_group.result s.below c.put_group.new.below ok c.put_group.ensures.leaves) in
-    rw ok (record {
-      answers = put_accepted 1 n (turn_over k.plain k.coded b.turn (length held)) owes c.if-n-gt0.true;
-      leaves = written_on k held b x n owes c.if-n-gt0.true whole (held_back k 0 s.group) b' (held_none k s.group) put;
-    })
+    let n = c.in-Owing-1-to-65535.field-0 in
+    let some : 0 < n = search rules in
+    let owes : turn_over k.plain k.coded b.turn (length held) ≡ Owing n = sym c.in-Owing-1-to-65535.ensures in
+    let group : c.deref.result.now ≡ held ++ x ∷ [] = c.deref.ensures.0 ∙ ap (λ v. v.items) c.take-group.ensures.value ∙ c.push.ensures.items in
+    let whole : length held + 1 ≡ k.plain = omega (arith, s.unfinished, c.push.ensures.len, c.len.ensures.value, c.if-len-plain.false, c.plain.ensures) in
+    let ok : c.put_group.result ≡ Ok tt = c.put_group.ensures.answers ∙ sym (group_accepted k held b x n owes some whole) in
+    let put : Put (k.code (held ++ x ∷ [])) b b' =
+    subst (λ (ys : List ℕ). Put (k.code ys) b b') group (did_ok (Put (k.code c.deref.result.now)) g.O.Outlet.state c.put_group.result s.below c.put_group.new.below ok c.put_group.ensures.leaves) in
+    rw ok (written_on k held b x n owes some whole c.take-group.new.self.items b' c.take-group.ensures.after put)

@@ -11,4 +11,4 @@ returns-clause-writes g c plain ok =
     let fits : SFits w16 n = search rules in
     let back : to_z w16 (of_z w16 n) ≡ n = to_z-of_z w16 n fits in
     has_written_of_eq g.W.Write.write_str_gives c.args.f.now _ _ c.write.new.self
-    (tenths_are n c.sign-sign.result.now c.size-size.result (c.sign-sign.ensures ∙ ap sign_text back) (c.size-size.ensures ∙ ap nat_abs back)) (c.write.ensures.writes plain ok)
+    (tenths_are n c.sign-sign.result.now c.unsigned_abs-size.result (c.sign-sign.ensures ∙ ap sign_text back) (c.unsigned_abs-size.ensures.value ∙ ap nat_abs back)) (c.write.ensures.writes plain ok)

@@ -1,18 +1,11 @@
-use Rattle.std.proofs.Common.{sym, ap, ◌∙◌}
+use Rattle.std.proofs.Common.{subst}
 use Rattle.text.specs.Figures.{address_word}
-use Rattle.text.specs.Reads.{known}
+use Rattle.text.specs.Reads.{Told, known}
 use Rattle.text.specs.Words.{to_come}
-use Rattle.text.proofs.Steps.{at_word}
+use Rattle.text.proofs.Steps.{told_word, told_known}
 use Rattle.text.proofs.words.Words.address.Goals as goal
 
-pub returns-in-Some : goal.returns-in-Some
-returns-in-Some c = record {
-  word = at_word c.args.missing.now (λ w. known c.args.wrong.now (address_word w)) (to_come c.args.self.now) c.in_ok-word.word.now c.in_ok-word.ensures.word ∙ ap (known c.args.wrong.now) (sym c.in-Some.ensures);
-  left = c.want.ensures.left;
-}
-
-pub returns-in-None : goal.returns-in-None
-returns-in-None c = record {
-  word = at_word c.args.missing.now (λ w. known c.args.wrong.now (address_word w)) (to_come c.args.self.now) c.in_ok-word.word.now c.in_ok-word.ensures.word ∙ ap (known c.args.wrong.now) (sym c.in-None.ensures);
-  left = c.want.ensures.left;
-}
+pub returns-clause-word : goal.returns-clause-word
+returns-clause-word c =
+    told_word (λ a. a) c.ok_or.result c.args.missing.now (λ w. known c.args.wrong.now (address_word w)) (to_come c.args.self.now) c.in_ok-want.field-0.now c.in_ok-want.ensures.word
+    (subst (λ v. Told (λ a. a) c.ok_or.result (known c.args.wrong.now v)) c.address.ensures (told_known c.ok_or.result c.address.result c.args.wrong c.ok_or.ensures.value))

@@ -1,6 +1,0 @@
-use Rattle.std.proofs.Common.{◌≡◌, ◌+◌, length, drop}
-use Rattle.text.specs.Words.{before_blank}
-use Rattle.text.proofs.words.word_length.Given as goal
-
-abbrev pub invariant-loop-i : goal.invariant-loop-i
-invariant-loop-i l = l.i + length (before_blank (drop l.i l.line)) ≡ length (before_blank l.line)

@@ -1,4 +1,0 @@
-mod Decimals
-mod Hexes
-mod Lines
-mod Sealings

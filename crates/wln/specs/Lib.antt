@@ -1,6 +1,0 @@
-pub mod Endings
-pub mod Figures
-pub mod Names
-pub mod Seals
-pub mod Stops
-pub mod Words
