@@ -8,6 +8,7 @@ use Rattle.radio.specs.declared.symbol.Symbol.{Symbol}
 use Rattle.radio.specs.declared.symbol.Symbol.TheVariants.{Clean}
 use Rattle.radio.specs.Reception.{whole, mark, any_octet, AllAsWritten, clean}
 use Rattle.radio.specs.Layer.{Layer, Laws, Fit, Octets, AllMay}
+use Rattle.radio.proofs.Honesty.{written_length, written_append}
 use Rattle.coding.specs.Regroup.{regroup, left_over, flat, Each, regroup_full, left_over_full}
 use Rattle.coding.specs.Grouping.{Grouping, decoded, ending_above, encoded, ruled, groups_in, counted}
 
@@ -43,18 +44,6 @@ all_append P [] ys o p = p
 all_append P (x ∷ xs) ys o p = (o.0, all_append P xs ys o.1 p)
 
 module _ (may : ℕ → Bool) where
-  written_length : (ss : List Symbol) (ws : List ℕ) → AllAsWritten may ss ws → length ss ≡ length ws
-  written_length [] [] a = refl
-  written_length [] (w ∷ ws) a = absurd a
-  written_length (s ∷ ss) [] a = absurd a
-  written_length (s ∷ ss) (w ∷ ws) a = ap suc (written_length ss ws a.1)
-
-  written_append : (ss ts : List Symbol) (ws vs : List ℕ) → AllAsWritten may ss ws → AllAsWritten may ts vs → AllAsWritten may (ss ++ ts) (ws ++ vs)
-  written_append [] ts [] vs a b = b
-  written_append [] ts (w ∷ ws) vs a b = absurd a
-  written_append (s ∷ ss) ts [] vs a b = absurd a
-  written_append (s ∷ ss) ts (w ∷ ws) vs a b = (a.0, written_append ss ts ws vs a.1 b)
-
   record Split (ss : List Symbol) (ws vs : List ℕ) : Type 0 where
     front : List Symbol
     back : List Symbol

@@ -12,8 +12,8 @@ pub mod laws;
 pub mod manchester;
 
 /// A coding of octets, group by group.
-// A group is an array of 8 with `plain` or `coded` beside it: no array's size can be computed from a trait's number,
-// and no call here may allocate.
+// A group is an array of 8 with `plain` or `coded` beside it, so that callers may hand over any 8: a slice would ask
+// them for a length, and sizes as const parameters would go through every type that holds a coding.
 pub trait Coding {
     ghost grouping: { Grouping };
 

@@ -4,4 +4,5 @@ pub mod Fields
 pub mod Said
 pub mod Seals
 pub mod Syntax
+pub mod Terminals
 pub mod Units

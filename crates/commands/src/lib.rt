@@ -9,8 +9,8 @@ mod parse;
 mod seal;
 mod session;
 pub mod terminal;
-mod with_unit;
+mod unit_line;
 mod words;
 
 pub use command::Piles;
-pub use session::serve;
+pub use session::{serve, serve_with};

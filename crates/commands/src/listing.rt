@@ -26,13 +26,14 @@ pub(crate) fn listing<L: Line + Drop>(heap: Global, mut line: L) -> Result<Strin
 }
 
 /// What is left of the present reception: its symbols and its ending.
+// Here and in `take_all` a clause says what is to come: a caller knows of a call no more than its own clauses.
 fn reception<L: Line>(heap: Global, line: &mut L) -> Result<String, AllocError>
     ensures text { IfOk result (λ s. string_bytes s ≡ reception_line (L.Line.heard line.old).present) }
     ensures coming { (L.Line.heard line.new).coming ≡ (L.Line.heard line.old).coming }
 {
-    let mut taken = Vec::new(heap);
-    let ending = Ending(take_all(&mut taken, line)?);
+    let (taken, end) = take_all(heap, line)?;
     let symbols = Symbols(taken.as_slice());
+    let ending = Ending(end);
     format!(in heap; "  {symbols}{ending}\n")
 }
 
@@ -56,18 +57,19 @@ impl fmt::Display for Ending {
     }
 }
 
-/// Takes the symbols that are left of the present reception, and answers the fault that ends it, or none at a whole end.
-fn take_all<L: Line>(taken: &mut Vec<Symbol>, line: &mut L) -> Result<Option<Fault>, AllocError>
-    ensures ending { IfOk result (λ end. end ≡ fault_of (L.Line.heard line.old).present.ending) }
-    ensures symbols { OnOk result (taken.new.items ≡ taken.old.items ++ (L.Line.heard line.old).present.symbols) }
+/// The symbols that are left of the present reception, and the fault that ends it, or none at a whole end.
+fn take_all<L: Line>(heap: Global, line: &mut L) -> Result<(Vec<Symbol>, Option<Fault>), AllocError>
+    ensures ending { IfOk result (λ r. r.1 ≡ fault_of (L.Line.heard line.old).present.ending) }
+    ensures symbols { IfOk result (λ r. r.0.items ≡ (L.Line.heard line.old).present.symbols) }
     ensures coming { (L.Line.heard line.new).coming ≡ (L.Line.heard line.old).coming }
 {
+    let mut taken = Vec::new(heap);
     // the three answers of a take leave in three ways, and its fault is no error here
     loop {
         match line.take() {
             Ok(Some(symbol)) => taken.push(symbol)?,
-            Ok(None) => return Ok(None),
-            Err(fault) => return Ok(Some(fault)),
+            Ok(None) => return Ok((taken, None)),
+            Err(fault) => return Ok((taken, Some(fault))),
         }
     }
 }

@@ -5,7 +5,7 @@ use crate::console::Console;
 use crate::listing::listing;
 use crate::parse::parse;
 use crate::seal::seal;
-use crate::with_unit::WithUnit;
+use crate::unit_line::UnitLine;
 use coding::block::Block;
 use lines::bit_line::BitLine;
 use lines::octet_line::OctetLine;
@@ -16,11 +16,16 @@ use std::alloc::{AllocError, Global};
 use std::io;
 use text::stop::Stop;
 
-/// Does the commands of a console, up to the end of its input. Before the first recording the line is one on which
-/// nothing was heard. Nothing says that an input ends, so the turns are counted.
-pub fn serve<C: Console>(console: &mut C, piles: Piles) -> io::Result<()> {
+/// Does the commands of a console, up to the end of its input; `hear` takes every pile.
+pub fn serve<C: Console>(console: &mut C) -> io::Result<()> {
+    serve_with(console, Piles::Trial)
+}
+
+/// As `serve`, where `hear` takes these piles. Before the first recording the line is one on which nothing was heard.
+pub fn serve_with<C: Console>(console: &mut C, piles: Piles) -> io::Result<()> {
     let mut session = Session { console, piles };
     let mut next = session.commands(OctetLine::new(b""))?;
+    // The turns are counted, since no call may wait without end and nothing says that an input ends.
     for _ in 0..u64::MAX {
         let Some(recording) = next else {
             break;
@@ -52,15 +57,12 @@ impl<'a, C: Console> Session<'a, C> {
                 BitLine::new(bytes),
                 BitLine::new(bytes),
             ),
-            Ear::Unit(unit) => self.on_line(
-                WithUnit::new(OctetLine::new(bytes), unit),
-                WithUnit::new(OctetLine::new(bytes), unit),
-            ),
+            Ear::Unit(unit) => self.on_line(UnitLine::new(bytes, unit), UnitLine::new(bytes, unit)),
         }
     }
 
-    // A line is no copy, so two are made on the same bytes: one is listed to its end, the other stays.
-    /// The same through a pile over both lines.
+    /// Lists what `heard` holds through a pile, and does the commands on `line` through the same pile.
+    // Two lines are made on the same bytes, one listed to its end: no copy can be derived for a struct with ghost fields.
     fn piled<L: Line + Drop>(
         &mut self,
         pile: Pile,
@@ -84,6 +86,7 @@ impl<'a, C: Console> Session<'a, C> {
     /// Does the commands up to the next recording, which it hands back, or to the end of the input.
     fn commands<L: Line + Drop>(&mut self, mut line: L) -> io::Result<Option<Recording>> {
         let heap = self.console.heap();
+        // Counted as in `serve_with`: no call may wait without end, and nothing says that an input ends.
         for _ in 0..u64::MAX {
             let Some(text) = self.console.read()? else {
                 return Ok(None);

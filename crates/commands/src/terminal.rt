@@ -1,37 +1,48 @@
+ghost use Rattle.std.specs.Prelude.{IfOk, OnOk};
+ghost use Rattle.std.specs.Io.KnownBytes.{Appends, Keeps};
+ghost use Rattle.commands.specs.Terminals.{printed};
+
 use crate::console::Console;
 use std::alloc::Global;
 use std::io;
-use std::io::{BufRead, BufReader, BufWriter, Split, Stdin, Stdout, Write};
+use std::io::{BufRead, BufReader, BufWriter, Read, Split, Write};
 
-/// Standard input, line by line, and standard output. No contract can say what these give or take.
+/// An input, line by line, and an output.
 #[derive(Drop)]
-pub struct Terminal {
+pub struct Terminal<R: Read + Drop, W: Write + Drop> {
     heap: Global,
-    lines: Split<BufReader<Stdin>>,
-    out: BufWriter<Stdout>,
+    lines: Split<BufReader<R>>,
+    out: BufWriter<W>,
 }
 
-impl Terminal {
-    pub fn new(rt: &HostRuntime) -> io::Result<Terminal> {
-        let heap = rt.alloc();
+impl<R: Read + Drop, W: Write + Drop> Terminal<R, W> {
+    /// Nothing is printed yet.
+    pub fn new(heap: Global, input: R, output: W) -> io::Result<Terminal<R, W>>
+        ensures { IfOk result (λ t. Keeps (W.contents output) (printed W.contents t)) }
+    {
         Ok(Terminal {
             heap,
-            lines: BufReader::new(heap, rt.stdin())?.split(heap, b'\n'),
-            out: BufWriter::new(heap, rt.stdout())?,
+            lines: BufReader::new(heap, input)?.split(heap, b'\n'),
+            out: BufWriter::new(heap, output)?,
         })
     }
 
     /// Prints bytes as they are.
-    pub fn write(&mut self, bytes: &[u8]) -> io::Result<()> {
+    pub fn write(&mut self, bytes: &[u8]) -> io::Result<()>
+        ensures { OnOk result (Appends (printed W.contents self.old) (printed W.contents self.new) bytes.now) }
+    {
         self.out.write_all(bytes)
     }
 
-    pub fn flush(&mut self) -> io::Result<()> {
+    /// Hands on what waits to be written; nothing else is printed.
+    pub fn flush(&mut self) -> io::Result<()>
+        ensures { Keeps (printed W.contents self.old) (printed W.contents self.new) }
+    {
         self.out.flush()
     }
 }
 
-impl Console for Terminal {
+impl<R: Read + Drop, W: Write + Drop> Console for Terminal<R, W> {
     fn heap(&self) -> Global {
         self.heap
     }
@@ -40,7 +51,9 @@ impl Console for Terminal {
         self.lines.next().transpose()
     }
 
-    fn print(&mut self, text: &str) -> io::Result<()> {
+    fn print(&mut self, text: &str) -> io::Result<()>
+        ensures { OnOk result (Appends (printed W.contents self.old) (printed W.contents self.new) text.now) }
+    {
         self.write(text.as_bytes())
     }
 }

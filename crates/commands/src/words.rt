@@ -29,12 +29,14 @@ pub(crate) fn fields(heap: Global, words: &mut Words<'_>) -> Result<Fields, Stop
     })
 }
 
+// Here and in the three below each call has its clause about what is left, since a caller knows of a call no more than
+// its own clauses, and no closure reads the word: each call would be longer, its clause a matter of one answer more.
 pub(crate) fn kind(words: &mut Words<'_>) -> Result<u8, Stop>
     ensures word { Told (λ k. k) result (next (codes "KIND is missing") kind_word (to_come words.old)) }
     ensures left { to_come words.new ≡ behind (to_come words.old) }
 {
-    // `as` is proved to lose nothing; `u8::try_from` would answer an error that cannot come.
     let kind = words.number(255, "KIND is missing", "KIND is a number up to 255")?;
+    // `as` is proved to lose nothing; `u8::try_from` would answer an error that cannot come.
     Ok(kind as u8)
 }
 
@@ -52,7 +54,7 @@ fn destination_of(word: &[u8]) -> Result<Option<u16>, Stop>
         return Ok(None);
     }
     let wrong = Stop::Unread("DESTINATION is four hex digits, or - for none");
-    Ok(Some(address(word).ok_or(wrong)?))
+    address(word).map(Some).ok_or(wrong)
 }
 
 pub(crate) fn bottom(words: &mut Words<'_>) -> Result<Bottom, Stop>

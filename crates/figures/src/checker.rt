@@ -3,19 +3,20 @@ use commands::console::Console;
 use commands::terminal::Terminal;
 use std::alloc::Global;
 use std::io;
+use std::io::{Stdin, Stdout};
 
 /// A console whose input is a transcript: lines of commands, and behind them the lines that they must be answered with,
 /// each behind `= `. It prints nothing while all is as expected, and stops at the first difference.
 #[derive(Drop)]
 pub(crate) struct Checker {
-    terminal: Terminal,
+    terminal: Terminal<Stdin, Stdout>,
     tally: Tally,
 }
 
 impl Checker {
     pub(crate) fn new(rt: &HostRuntime) -> io::Result<Checker> {
         Ok(Checker {
-            terminal: Terminal::new(rt)?,
+            terminal: Terminal::new(rt.alloc(), rt.stdin(), rt.stdout())?,
             tally: Tally::new(rt.alloc()),
         })
     }
@@ -58,8 +59,9 @@ impl Console for Checker {
         self.terminal.heap()
     }
 
-    /// The next line that is a command; nothing says that an input ends, so the turns are counted.
+    /// The next line that is a command.
     fn read(&mut self) -> io::Result<Option<Vec<u8>>> {
+        // The turns are counted, since no call may wait without end and nothing says that an input ends.
         for _ in 0..u64::MAX {
             let Some(line) = self.terminal.read()? else {
                 return Ok(None);

@@ -12,7 +12,7 @@ use crate::checker::Checker;
 use crate::recorded::recorded_run;
 use crate::sent::sent_and_read;
 use crate::table::table_holds;
-use commands::{Piles, serve};
+use commands::serve;
 use std::io;
 
 /// What the first three calls promise holds where this program is built; the transcript is held against the library here.
@@ -21,6 +21,6 @@ fn main(rt: HostRuntime) -> io::Result<()> {
     let _ = recorded_run(rt.alloc());
     let _ = sent_and_read(vec![in rt.alloc(); 0; 29]?);
     let mut checker = Checker::new(&rt)?;
-    serve(&mut checker, Piles::Trial)?;
+    serve(&mut checker)?;
     checker.report()
 }

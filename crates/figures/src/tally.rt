@@ -1,4 +1,4 @@
-ghost use Rattle.std.specs.Prelude.{◌≡◌};
+ghost use Rattle.std.specs.Prelude.{◌≡◌, alloc_error};
 ghost use Rattle.figures.specs.Tallies.{first_words, Told};
 ghost use Rattle.figures.specs.declared.tally.Halt.TheVariants.{Memory};
 
@@ -25,6 +25,8 @@ impl From<AllocError> for Halt {
 }
 
 impl<T: Drop> From<AllocFailed<T>> for Halt {
+    ghost from_gives = { λ _ e. e ≡ Memory alloc_error };
+
     fn from(_failed: AllocFailed<T>) -> Halt {
         Halt::Memory(AllocError)
     }
@@ -51,6 +53,8 @@ impl Tally {
         }
     }
 
+    // `expect` and `answer` are not one function: it would match on the side, for either queue and for the order of the
+    // two lines in `settle`.
     pub(crate) fn expect(&mut self, line: &[u8]) -> Result<(), Halt> {
         let expected = line.to_vec(self.heap)?;
         match self.answered.pop_front() {

@@ -1,11 +1,10 @@
 -- The bits of bytes from a place on as a number, and a sign and a symbol by the number of their bits.
-use Rattle.std.proofs.Common.{◌≡◌, ℕ, zero, suc, ◌+◌, ◌-◌, ◌*◌, ◌/◌, ◌%◌, ◌^◌, ◌<◌, ◌≤◌, cond, ◌&&◌, eqb, leb, min, List, [], ◌∷◌, ◌++◌, length, get_or, take, drop, sym, refl, ap, ◌∙◌, subst, mul_assoc, arith}
-use native.Mathlib.Nat.{pow-succ'}
-use Rattle.std.proofs.lemmas.List.{drop-drop, get_or-drop, length-drop}
+use Rattle.std.proofs.Common.{◌≡◌, ℕ, zero, suc, ◌+◌, ◌-◌, ◌*◌, ◌/◌, ◌%◌, ◌^◌, ◌<◌, ◌≤◌, cond, ◌&&◌, eqb, leb, min, List, [], ◌∷◌, ◌++◌, length, get_or, take, drop, sym, refl, ap, ◌∙◌, subst, arith}
+use Rattle.std.proofs.lemmas.List.{drop-drop, get_or-drop, length-drop, take_min}
 use Rattle.std.proofs.lemmas.Bool.Decides.{nat_tests}
 use Rattle.radio.specs.declared.symbol.Symbol.TheVariants.{Clean, Spoiled}
 use Rattle.radio.specs.Bits.{bits, number, bits_of}
-use Rattle.radio.proofs.LowBits.{mod_more, same_bits, drop_low, get_or_low, take_low, take_low_mod, number_low, drop_bits}
+use Rattle.radio.proofs.LowBits.{mod_more, same_bits, drop_low, get_or_low, take_low, take_low_mod, number_low, drop_bits, length_low, append_low}
 use Rattle.lines.specs.HeardBits.{begins, sign, sign_here, symbol_here}
 
 -- a front of the bits of a number
@@ -27,19 +26,6 @@ begins_low (suc m) v (suc n) x =
 abbrev pub little : List ℕ → ℕ
 little [] = 0
 little (x ∷ rest) = x + 256 * little rest
-
-append_low : (k m x y : ℕ) → x < 2 ^ k → bits k x ++ bits m y ≡ bits (k + m) (x + 2 ^ k * y)
-append_low zero m x y h = same_bits (omega arith) (omega arith)
-append_low (suc k) m x y h =
-    let p : 2 ^ suc k * y ≡ 2 * (2 ^ k * y) = ap (λ z. z * y) (pow-succ' 2 k) ∙ mul_assoc 2 (2 ^ k) y in
-    let q = pow-succ' 2 k in
-    let o : x % 2 ≡ (x + 2 ^ suc k * y) % 2 = omega arith in
-    let d : x / 2 + 2 ^ k * y ≡ (x + 2 ^ suc k * y) / 2 = omega arith in
-    let t : bits k (x / 2) ++ bits m y ≡ bits (k + m) ((x + 2 ^ suc k * y) / 2) =
-    append_low k m (x / 2) y (omega arith) ∙ ap (bits (k + m)) d in
-    let n : suc (k + m) ≡ suc k + m = omega arith in
-    let u : x % 2 ∷ (bits k (x / 2) ++ bits m y) ≡ (x + 2 ^ suc k * y) % 2 ∷ bits (k + m) ((x + 2 ^ suc k * y) / 2) = cc in
-    u ∙ ap (λ j. bits j (x + 2 ^ suc k * y)) n
 
 pub bits_low : (xs : List ℕ) → ((i : ℕ) → get_or xs i 0 < 256) → bits_of xs ≡ bits (8 * length xs) (little xs)
 bits_low [] h = refl
@@ -95,16 +81,11 @@ same_window (suc (suc (suc (suc (suc (suc (suc zero))))))) w m h = omega arith
 same_window (suc (suc (suc (suc (suc (suc (suc (suc s)))))))) w m h = absurd (omega arith)
 
 -- the bits of a number, and the first of them
-pub length_low : (n x : ℕ) → length (bits n x) ≡ n
-length_low zero x = refl
-length_low (suc n) x = ap suc (length_low n (x / 2))
-
 first_low : (k n x : ℕ) → bits (min n k) x ≡ take k (bits n x)
-first_low zero n x = same_bits {m = min n 0} {n = 0} {x = x} (omega arith) refl
-first_low (suc k) zero x = same_bits {m = min 0 (suc k)} {n = 0} {x = x} (omega arith) refl
-first_low (suc k) (suc n) x =
-    let e : min (suc n) (suc k) ≡ suc (min n k) = omega arith in
-    ap (λ j. bits j x) e ∙ ap (λ l. x % 2 ∷ l) (first_low k n (x / 2))
+first_low k n x =
+    let l = length_low n x in
+    let e : min n k ≡ min k (length (bits n x)) = omega arith in
+    sym (take_low (min n k) n x (omega arith)) ∙ ap (λ j. take j (bits n x)) e ∙ take_min k (bits n x)
 
 abbrev pub five_bytes : List ℕ → ℕ → ℕ
 five_bytes xs f = get_or xs f 0 + get_or xs (f + 1) 0 * 256 + get_or xs (f + 2) 0 * 65536 + get_or xs (f + 3) 0 * 16777216 + get_or xs (f + 4) 0 * 4294967296

@@ -20,8 +20,8 @@ pub struct ByteLine<'a, M: Recorded> {
     place: usize,
     /// How many symbols the present reception has given: `None` before the first opening.
     given: Option<usize>,
-    /// The search has come to the end and found no sign: no cell is searched twice. No value goes with it,
-    /// since the present reception is taken on from its place.
+    /// The search has come to the end and found no sign: no cell is searched twice.
+    // a flag, since no value goes with it: the present reception is taken on from `place`
     quiet: bool,
     ghost short: { length bytes.now ≤ 65536 },
     ghost within: { place ≤ length (M.Recorded.recording.cells bytes.now) },

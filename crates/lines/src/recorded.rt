@@ -9,7 +9,7 @@ use refusal::Cause;
 const END: Symbol = Symbol::Clean(0x33);
 
 /// How channel octets are recorded in bytes: as cells, of which each symbol takes the same number.
-// The bytes and a place go as two: a struct of both would be made anew at each call, since only the place changes.
+// Bytes and place go as two: the functions are static, and the search asks for places at which no line stands.
 pub trait Recorded {
     ghost recording: { Recording };
 

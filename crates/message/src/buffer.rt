@@ -1,7 +1,7 @@
 ghost use Rattle.std.specs.Prelude.{◌≡◌, ◌+◌, ◌≤◌, [], ◌++◌, length};
 
 /// Up to `N` octets.
-// A library's vector is not `Copy`, as headers and sealed messages are, or can fail for memory.
+// An array with a count beside it: no library's vector is `Copy`, as a sealed message is.
 #[derive(Clone, Copy)]
 pub(crate) struct Buffer<const N: usize> {
     octets: [u8; N],

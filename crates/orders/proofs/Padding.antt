@@ -5,8 +5,7 @@ use Rattle.std.proofs.lemmas.List.{length-append, length-replicate, take-replica
 use Rattle.std.proofs.lemmas.Bool.{and_from, le-leb, eq-eqb}
 use Rattle.std.proofs.Math.Seq.{take-append-add}
 use Rattle.message.specs.Message.{Lawful, kind, head_length}
-use Rattle.radio.specs.Outlets.{State, Sound, unit, even, begin_refusal}
-use Rattle.radio.proofs.Honesty.{every_pile}
+use Rattle.radio.specs.Outlets.{State, unit, even, begin_refusal}
 use Rattle.station.specs.Nearness.{rounded, padded}
 use Rattle.orders.specs.Sending.{send_refusal}
 use Rattle.station.proofs.Exactly.{rounded_least, at_most}
@@ -16,10 +15,6 @@ pub short_message : (m : List ℕ) → Lawful m → length m ≤ 74
 short_message m l =
     let head : head_length (kind m) ≤ 6 = elim (eqb (kind m) 3) as (λ b. cond b 6 4 ≤ 6) [ true ↦ lit≤ tt | false ↦ lit≤ tt ] in
     omega (arith, l.most)
-
--- the unit of an outlet is at least 1
-pub outlet_unit : (s : State) → Sound s → 1 ≤ unit s
-outlet_unit s h = (every_pile s.pile).positive s.ground_unit h.grounded
 
 -- a padded message has a multiple of the unit
 pub padded_count : (u : ℕ) → 1 ≤ u → (m : List ℕ) → length (padded u m) ≡ rounded u (length m)

@@ -1,19 +1,14 @@
 -- Bits, frames, and what writing a frame does to what the bit outlet means. Assumes nothing.
-use Rattle.std.proofs.Common.{◌≡◌, ℕ, zero, suc, ◌+◌, ◌-◌, ◌*◌, ◌/◌, ◌%◌, ◌^◌, ◌<◌, ◌≤◌, List, [], ◌∷◌, ◌++◌, length, get_or, take, drop, set, sym, refl, ap, ◌∙◌, append_assoc, mod-lt, mul_assoc, mul_comm, zero-add, div-one, arith}
-use native.Mathlib.Nat.{mod-add-div, pow-succ'}
-use Rattle.std.proofs.lemmas.Nat.{pow_pos, shr-shr, shr_high}
+use Rattle.std.proofs.Common.{◌≡◌, ℕ, zero, suc, ◌+◌, ◌-◌, ◌*◌, ◌/◌, ◌%◌, ◌^◌, ◌<◌, ◌≤◌, List, [], ◌∷◌, ◌++◌, length, get_or, take, drop, set, sym, refl, ap, ◌∙◌, append_assoc, mod-lt, zero-add, div-one, arith}
+use Rattle.std.proofs.lemmas.Nat.{pow_pos, shr-shr}
 use Rattle.std.proofs.lemmas.List.{length-append, length-take-le, take_at, drop_at, drop-append-le, drop-drop, drop_more, set_at, take-append-drop}
 use Rattle.radio.specs.Layer.{Octets}
 use Rattle.outlets.specs.Bottoms.{written_at}
 use Rattle.radio.specs.Bits.{bits, number, bits_of, frame}
 use Rattle.outlets.specs.Frames.{BitsPinOctets}
-use Rattle.radio.proofs.LowBits.{take_low, drop_low, length_bits}
+use Rattle.radio.proofs.LowBits.{take_low, take_low_mod, drop_low, length_bits, length_low, append_low}
 use Rattle.std.proofs.lemmas.Grind.{flat_map-append}
 use Rattle.outlets.specs.PlacementLaws.{octet_back}
-
-pub bits_length : (n x : ℕ) → length (bits n x) ≡ n
-bits_length zero x = refl
-bits_length (suc n) x = ap suc (bits_length n (x / 2))
 
 -- bits in two parts
 pub bits_split : (a b x : ℕ) → bits (a + b) x ≡ bits a x ++ bits b (x / 2 ^ a)
@@ -25,26 +20,13 @@ bits_split (suc a) b x =
     ∙ ap (λ ys. x % 2 ∷ ys) (bits_split a b (x / 2) ∙ ap (λ y. bits a (x / 2) ++ bits b y) (shr-shr x 1 a ∙ ap (λ m. x / 2 ^ m) k))
 
 -- the lower part decides the lower bits
-pub bits_low : (a lo hi : ℕ) → bits a (lo + 2 ^ a * hi) ≡ bits a lo
-bits_low zero lo hi = refl
-bits_low (suc a) lo hi =
-    let e : 2 ^ suc a * hi ≡ 2 * (2 ^ a * hi) = ap (λ q. q * hi) (pow-succ' 2 a) ∙ mul_assoc 2 (2 ^ a) hi in
-    let h : (lo + 2 ^ suc a * hi) % 2 ≡ lo % 2 = omega arith in
-    let t : (lo + 2 ^ suc a * hi) / 2 ≡ lo / 2 + 2 ^ a * hi = omega arith in
-    ap (λ b. b ∷ bits a ((lo + 2 ^ suc a * hi) / 2)) h ∙ ap (λ y. lo % 2 ∷ bits a y) t ∙ ap (λ ys. lo % 2 ∷ ys) (bits_low a (lo / 2) hi)
-
-pub bits_join : (a b lo hi : ℕ) → lo < 2 ^ a → bits (a + b) (lo + 2 ^ a * hi) ≡ bits a lo ++ bits b hi
-bits_join a b lo hi h =
-    let c = mul_comm (2 ^ a) hi in
-    let e : lo + 2 ^ a * hi ≡ hi * 2 ^ a + lo = omega arith in
-    bits_split a b (lo + 2 ^ a * hi)
-    ∙ ap (λ ys. ys ++ bits b ((lo + 2 ^ a * hi) / 2 ^ a)) (bits_low a lo hi)
-    ∙ ap (λ y. bits a lo ++ bits b y) (ap (λ y. y / 2 ^ a) e ∙ shr_high hi a lo h)
+bits_mod : (a x : ℕ) → bits a (x % 2 ^ a) ≡ bits a x
+bits_mod a x = sym (take_low a a (x % 2 ^ a) (omega arith)) ∙ take_low_mod a a x ∙ take_low a a x (omega arith)
 
 pub frame_bits : (x : ℕ) → x < 256 → bits 10 (1 + 2 * x) ≡ frame x
 frame_bits x h =
     let z : x / 256 ≡ 0 = omega arith in
-    bits_join 1 9 1 x (omega arith) ∙ ap (λ ys. 1 ∷ ys) (bits_split 8 1 x ∙ ap (λ y. bits 8 x ++ (y % 2 ∷ [])) z)
+    sym (append_low 1 9 1 x (omega arith)) ∙ ap (λ ys. 1 ∷ ys) (bits_split 8 1 x ∙ ap (λ y. bits 8 x ++ (y % 2 ∷ [])) z)
 
 -- a frame written over ten of sixteen bits
 module _ (word s x : ℕ) (l : s ≤ 6) (h : x < 256) where
@@ -58,7 +40,7 @@ module _ (word s x : ℕ) (l : s ≤ 6) (h : x < 256) where
   sixteen = omega arith
 
   low : bits s (word % 2 ^ s) ≡ take s (bits 16 word)
-  low = sym (take_low s 16 word (omega arith) ∙ ap (bits s) (sym (mod-add-div word (2 ^ s))) ∙ bits_low s (word % 2 ^ s) (word / 2 ^ s))
+  low = bits_mod s word ∙ sym (take_low s 16 word (omega arith))
 
   high : bits (6 - s) hi ≡ drop (s + 10) (bits 16 word)
   high = ap (λ n. bits n hi) (omega arith) ∙ ap (bits (16 - (s + 10))) (shr-shr word s 10) ∙ sym (drop_low (s + 10) 16 word)
@@ -67,8 +49,8 @@ module _ (word s x : ℕ) (l : s ≤ 6) (h : x < 256) where
   framed_over scale e =
       ap (λ q. bits 16 (word % q + q * (f + 1024 * (word / q / 1024)))) e
       ∙ ap (λ n. bits n (word % 2 ^ s + 2 ^ s * (f + 1024 * hi))) sixteen
-      ∙ bits_join s (10 + (6 - s)) (word % 2 ^ s) (f + 1024 * hi) (mod-lt word (pow_pos s))
-      ∙ ap (λ ys. bits s (word % 2 ^ s) ++ ys) (bits_join 10 (6 - s) f hi (omega arith))
+      ∙ sym (append_low s (10 + (6 - s)) (word % 2 ^ s) (f + 1024 * hi) (mod-lt word (pow_pos s)))
+      ∙ ap (λ ys. bits s (word % 2 ^ s) ++ ys) (sym (append_low 10 (6 - s) f hi (omega arith)))
       ∙ ap (λ ys. ys ++ (bits 10 f ++ bits (6 - s) hi)) low
       ∙ ap (λ ys. take s (bits 16 word) ++ (ys ++ bits (6 - s) hi)) (frame_bits x h)
       ∙ ap (λ ys. take s (bits 16 word) ++ (frame x ++ ys)) high
@@ -112,7 +94,7 @@ spliced F W R fr n s k l at h =
         sym (ap (λ j. drop j (F ++ (W ++ R))) q ∙ sym (drop-drop k n (F ++ (W ++ R))) ∙ ap (drop k) (drop_at F (W ++ R) n l) ∙ drop-append-le k W R h)
 
 pub bits_word : (x y : ℕ) → x < 256 → bits 16 (x + 256 * y) ≡ bits 8 x ++ bits 8 y
-bits_word x y h = bits_join 8 8 x y h
+bits_word x y h = sym (append_low 8 8 x y h)
 
 -- two bytes written
 module _ (ms : List ℕ) (q : ℕ) (fits : q + 1 < length ms) where
@@ -149,10 +131,10 @@ module _ (ms : List ℕ) (q : ℕ) (fits : q + 1 < length ms) where
       → bits_of (set (set ms q (laid % 256)) (q + 1) (laid / 256 % 256)) ≡ written_at (bits_of ms) (8 * q + s) fr
   two_laid word laid s fr l ten was e =
       let W = bits 16 word in
-      let w : length W ≡ 16 = bits_length 16 word in
+      let w : length W ≡ 16 = length_low 16 word in
       let n : length (bits_of P) ≡ 8 * q = length_bits P ∙ ap (λ k. 8 * k) PLength in
-      let lo : bits 8 (laid % 256) ≡ bits 8 laid = sym (ap (bits 8) (sym (mod-add-div laid 256)) ∙ bits_low 8 (laid % 256) (laid / 256)) in
-      let up : bits 8 (laid / 256 % 256) ≡ bits 8 (laid / 256) = sym (ap (bits 8) (sym (mod-add-div (laid / 256) 256)) ∙ bits_low 8 (laid / 256 % 256) (laid / 256 / 256)) in
+      let lo : bits 8 (laid % 256) ≡ bits 8 laid = bits_mod 8 laid in
+      let up : bits 8 (laid / 256 % 256) ≡ bits 8 (laid / 256) = bits_mod 8 (laid / 256) in
       let old : bits_of P ++ (W ++ bits_of Q) ≡ bits_of ms = ap (λ ys. bits_of P ++ (ys ++ bits_of Q)) was ∙ sym (bits_two x y) ∙ ap bits_of (sym ms_is) in
       ap bits_of (set_two (laid % 256) (laid / 256 % 256))
       ∙ bits_two (laid % 256) (laid / 256 % 256)

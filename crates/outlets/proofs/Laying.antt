@@ -2,7 +2,7 @@
 use Rattle.std.proofs.Common.{◌≡◌, ℕ, zero, suc, ◌+◌, ◌-◌, ◌*◌, ◌<◌, ◌≤◌, List, [], ◌∷◌, ◌++◌, length, take, drop, replicate, sym, refl, ap, ◌∙◌, append_assoc, add-zero, lit<, subst, mul-suc, mul-add, mul-le-mul_left, arith}
 use Rattle.std.specs.Global.{Vec}
 use Rattle.std.specs.Vec.{with_items}
-use Rattle.std.proofs.lemmas.List.{with_items_is, append-nil, length-append, length-take-le, length-replicate, take_at, drop_at, drop-drop, take-append-drop}
+use Rattle.std.proofs.lemmas.List.{with_items_is, append-nil, replicate_more, length-append, length-take-le, length-replicate, take_at, drop_at, drop-drop, take-append-drop}
 use Rattle.radio.specs.declared.turn.Turn.{Turn}
 use Rattle.radio.specs.declared.turn.Turn.TheVariants.{Idle, Owing}
 use Rattle.radio.specs.Outlets.{GoesOn, Begun, Ended, Put, laid_over, start, stop, less}
@@ -141,18 +141,25 @@ module _ (p : Placement) where
     still_laid = ap (flat_map p.of_octet) channel_is ∙ cells_are ∙ sym (ap (take (p.width * k)) laid ∙ take_written B (p.width * used) J (p.width * k) reach within)
 
   -- one octet laid behind those of a preamble
-  module _ (memory now next : List ℕ) (n i x : ℕ) (e : p.of_bytes now ≡ written_at (p.of_bytes memory) (p.width * n) (flat_map p.of_octet (replicate i 240))) (fits : n + i ≤ p.fitting (length memory))
-      (laid : p.of_bytes next ≡ written_at (p.of_bytes now) (p.width * (n + i)) (p.of_octet x)) where
+  module _ (memory now next : List ℕ) (n i k x : ℕ) (at : k ≡ n + i) (e : p.of_bytes now ≡ written_at (p.of_bytes memory) (p.width * n) (flat_map p.of_octet (replicate i 240))) (fits : k ≤ p.fitting (length memory))
+      (laid : p.of_bytes next ≡ written_at (p.of_bytes now) (p.width * k) (p.of_octet x)) where
     pub laid_behind : p.of_bytes next ≡ written_at (p.of_bytes memory) (p.width * n) (flat_map p.of_octet (replicate i 240 ++ (x ∷ [])))
     laid_behind =
         let l : length (replicate {A = ℕ} i 240) ≡ i = length-replicate i 240 in
         let f : length (flat_map p.of_octet (replicate i 240)) ≡ p.width * i = cells_length (replicate i 240) ∙ ap (λ m. p.width * m) l in
-        let w = enough memory (n + i) fits in
-        let m = mul-add p.width n i in
-        laid ∙ ap (λ zs. written_at zs (p.width * (n + i)) (p.of_octet x)) e
-        ∙ written_further (p.of_bytes memory) (p.width * n) (flat_map p.of_octet (replicate i 240)) (p.width * (n + i)) (omega arith) w (p.of_octet x)
+        let w = enough memory k fits in
+        let m : p.width * k ≡ p.width * n + p.width * i = ap (λ j. p.width * j) at ∙ mul-add p.width n i in
+        laid ∙ ap (λ zs. written_at zs (p.width * k) (p.of_octet x)) e
+        ∙ written_further (p.of_bytes memory) (p.width * n) (flat_map p.of_octet (replicate i 240)) (p.width * k) (omega arith) w (p.of_octet x)
         ∙ ap (λ zs. written_at (p.of_bytes memory) (p.width * n) (flat_map p.of_octet (replicate i 240) ++ zs)) (sym (append-nil (p.of_octet x)))
         ∙ ap (written_at (p.of_bytes memory) (p.width * n)) (sym (flat_map-append p.of_octet (replicate i 240) (x ∷ [])))
+
+  -- the preamble one octet longer
+  pub laid_more : (memory now next : List ℕ) (n i j k : ℕ) → k ≡ n + i → j ≡ i + 1 → p.of_bytes now ≡ written_at (p.of_bytes memory) (p.width * n) (flat_map p.of_octet (replicate i 240)) → k ≤ p.fitting (length memory)
+      → p.of_bytes next ≡ written_at (p.of_bytes now) (p.width * k) (p.of_octet 240) → p.of_bytes next ≡ written_at (p.of_bytes memory) (p.width * n) (flat_map p.of_octet (replicate j 240))
+  laid_more memory now next n i j k at more e fits laid =
+      laid_behind memory now next n i k 240 at e fits laid
+      ∙ ap (λ ys. written_at (p.of_bytes memory) (p.width * n) (flat_map p.of_octet ys)) (replicate_more i 240 ∙ ap (λ m. replicate m 240) (sym more))
 
   -- the same in a Vec that lent its items out to be written
   module _ (v : Vec ℕ) (old new : List ℕ) (used : ℕ) (is : old ≡ v.items) (long : length new ≡ length old) where

@@ -12,6 +12,15 @@ use radio::turn::Turn;
 use refusal::Refusal;
 use std::marker::PhantomData;
 
+/// The channel octet of which a preamble is.
+const PREAMBLE: u8 = 0xF0;
+
+/// The channel octet that opens a message, behind its preamble.
+const OPENING: u8 = 0xCC;
+
+/// The channel octet that ends a message.
+const END: u8 = 0x33;
+
 impl<M: Cells> MemoryOutlet<M> {
     /// Takes over the memory. Its space is as many channel octets as fit into it, at most 65,536.
     pub fn new(memory: Vec<u8>) -> MemoryOutlet<M>
@@ -42,10 +51,10 @@ fn lay_start<M: Cells>(memory: &mut [u8], place: usize, preamble: usize)
     ensures { M.Cells.placement.of_bytes memory.new ≡ written_at (M.Cells.placement.of_bytes memory.old) (M.Cells.placement.width * place) (flat_map M.Cells.placement.of_octet (start preamble)) }
 {
     // one by one, and not by `fill`: a frame may begin inside a byte
-    for i in 0..preamble {
-        M::lay(memory, place + i, 0xF0);
+    for at in place..place + preamble {
+        M::lay(memory, at, PREAMBLE);
     }
-    M::lay(memory, place + preamble, 0xCC);
+    M::lay(memory, place + preamble, OPENING);
 }
 
 impl<M: Cells> Outlet for MemoryOutlet<M> {
@@ -55,12 +64,13 @@ impl<M: Cells> Outlet for MemoryOutlet<M> {
 
     fn begin(&mut self, preamble: u16, count: usize) -> Result<(), Refusal> {
         self.check_form(preamble, count)?;
-        let needed = preamble as usize + 2 + count;
+        let preamble = usize::from(preamble);
+        let needed = preamble + 2 + count;
         if needed > self.room as usize {
             return Err(Refusal::Space);
         }
-        lay_start::<M>(&mut self.memory, self.used, preamble as usize);
-        self.used += preamble as usize + 1;
+        lay_start::<M>(&mut self.memory, self.used, preamble);
+        self.used += preamble + 1;
         self.turn = Turn::Owing(count as u16);
         self.room -= needed as u32;
         Ok(())
@@ -82,7 +92,7 @@ impl<M: Cells> Outlet for MemoryOutlet<M> {
         let Turn::Owing(0) = self.turn else {
             return Err(Refusal::Turn);
         };
-        M::lay(&mut self.memory, self.used, 0x33);
+        M::lay(&mut self.memory, self.used, END);
         self.used += 1;
         self.turn = Turn::Idle;
         Ok(())

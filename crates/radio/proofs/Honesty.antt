@@ -1,5 +1,5 @@
 -- The induction over piles.
-use Rattle.std.proofs.Common.{◌≡◌, ℕ, ◌≤◌, Bool, true, false, not, List, [], ◌∷◌, map, length, sym, refl, ap, ◌∙◌, subst, arith}
+use Rattle.std.proofs.Common.{◌≡◌, ℕ, suc, ◌≤◌, Bool, true, false, not, List, [], ◌∷◌, ◌++◌, map, length, sym, refl, ap, ◌∙◌, subst, arith}
 use Rattle.radio.specs.declared.symbol.Symbol.{Symbol}
 use Rattle.radio.specs.declared.symbol.Symbol.TheVariants.{Clean, Spoiled}
 use Rattle.radio.specs.Reception.{Reception, Honest, mark, marks, any_octet, clean, AllAsWritten}
@@ -105,3 +105,16 @@ pub every_pile : (pile : Pile) → KeepsTheLaws pile
 every_pile [] = none
 every_pile (l ∷ []) = one l
 every_pile (l ∷ k ∷ ls) = over l k ls (every_pile (k ∷ ls))
+
+-- as many symbols as octets were written, and those of two parts one behind the other
+pub written_length : (may : ℕ → Bool) (ss : List Symbol) (ws : List ℕ) → AllAsWritten may ss ws → length ss ≡ length ws
+written_length may [] [] a = refl
+written_length may [] (w ∷ ws) a = absurd a
+written_length may (s ∷ ss) [] a = absurd a
+written_length may (s ∷ ss) (w ∷ ws) a = ap suc (written_length may ss ws a.1)
+
+pub written_append : (may : ℕ → Bool) (ss ts : List Symbol) (ws vs : List ℕ) → AllAsWritten may ss ws → AllAsWritten may ts vs → AllAsWritten may (ss ++ ts) (ws ++ vs)
+written_append may [] ts [] vs a b = b
+written_append may [] ts (w ∷ ws) vs a b = absurd a
+written_append may (s ∷ ss) ts [] vs a b = absurd a
+written_append may (s ∷ ss) ts (w ∷ ws) vs a b = (a.0, written_append may ss ts ws vs a.1 b)

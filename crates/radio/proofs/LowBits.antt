@@ -1,5 +1,6 @@
 -- Bits of numbers and of bytes.
-use Rattle.std.proofs.Common.{◌≡◌, ℕ, zero, suc, ◌+◌, ◌-◌, ◌*◌, ◌/◌, ◌%◌, ◌^◌, ◌<◌, ◌≤◌, List, [], ◌∷◌, length, get_or, take, drop, sym, refl, ap, ◌∙◌, add-one, one-add, arith}
+use native.Mathlib.Nat.{pow-succ'}
+use Rattle.std.proofs.Common.{◌≡◌, ℕ, zero, suc, ◌+◌, ◌-◌, ◌*◌, ◌/◌, ◌%◌, ◌^◌, ◌<◌, ◌≤◌, List, [], ◌∷◌, ◌++◌, length, get_or, take, drop, sym, refl, ap, ◌∙◌, add-one, one-add, mul_assoc, arith}
 use Rattle.std.proofs.lemmas.List.{drop_all, drop-drop}
 use Rattle.std.proofs.lemmas.Nat.{mod-pow-add, shr-shr}
 use Rattle.radio.specs.Bits.{bits, number, bits_of}
@@ -58,3 +59,21 @@ drop_bits (suc f) (x ∷ xs) =
 pub length_bits : (xs : List ℕ) → length (bits_of xs) ≡ 8 * length xs
 length_bits [] = refl
 length_bits (x ∷ xs) = let n = length_bits xs in omega arith
+
+-- as many bits as are asked for, and those of two numbers one behind the other
+pub length_low : (n x : ℕ) → length (bits n x) ≡ n
+length_low zero x = refl
+length_low (suc n) x = ap suc (length_low n (x / 2))
+
+pub append_low : (k m x y : ℕ) → x < 2 ^ k → bits k x ++ bits m y ≡ bits (k + m) (x + 2 ^ k * y)
+append_low zero m x y h = same_bits (omega arith) (omega arith)
+append_low (suc k) m x y h =
+    let p : 2 ^ suc k * y ≡ 2 * (2 ^ k * y) = ap (λ z. z * y) (pow-succ' 2 k) ∙ mul_assoc 2 (2 ^ k) y in
+    let q = pow-succ' 2 k in
+    let o : x % 2 ≡ (x + 2 ^ suc k * y) % 2 = omega arith in
+    let d : x / 2 + 2 ^ k * y ≡ (x + 2 ^ suc k * y) / 2 = omega arith in
+    let t : bits k (x / 2) ++ bits m y ≡ bits (k + m) ((x + 2 ^ suc k * y) / 2) =
+    append_low k m (x / 2) y (omega arith) ∙ ap (bits (k + m)) d in
+    let n : suc (k + m) ≡ suc k + m = omega arith in
+    let u : x % 2 ∷ (bits k (x / 2) ++ bits m y) ≡ (x + 2 ^ suc k * y) % 2 ∷ bits (k + m) ((x + 2 ^ suc k * y) / 2) = cc in
+    u ∙ ap (λ j. bits j (x + 2 ^ suc k * y)) n

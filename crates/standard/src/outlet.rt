@@ -39,7 +39,7 @@ fn write_over<O: Outlet>(outlet: O, preamble: u16, octets: &[u8]) -> (Result<u32
     let answer = write_message(&mut outlet, preamble, octets);
     let space = outlet.space_of();
     let below = outlet.into_below().into_below();
-    // both cases, since no proof closes over `answer.map(|()| space)`: there the answer is only known to be some of a closure
+    // both cases: over `answer.map(|()| space)` no proof closed
     match answer {
         Ok(()) => (Ok(space), below),
         Err(refusal) => (Err(refusal), below),

@@ -1,7 +1,7 @@
 -- What is collected of a reception. Assumes nothing.
 use Rattle.std.proofs.Common.{◌≡◌, ℕ, ◌+◌, ◌<◌, ◌≤◌, List, [], ◌∷◌, ◌++◌, length, take, set, Some, Ok, Err, sym, ap, ◌∙◌, arith}
 use Rattle.std.proofs.lemmas.List.{length_push, take_at, take_all, set_at}
-use Rattle.std.proofs.lemmas.Bool.{le-leb, lt-leb, lt-ltb}
+use Rattle.std.proofs.lemmas.Bool.{le-leb, lt-ltb}
 use Rattle.refusal.specs.declared.Fault.{Fault}
 use Rattle.refusal.specs.declared.Refusal.TheVariants.{Fault as Faulty, Extent}
 use Rattle.radio.specs.declared.symbol.Symbol.{Symbol}
@@ -20,16 +20,12 @@ taken_more i h q e s xs l t o =
     let same : set g i s ≡ g = set_at xs s [] s i l in
     (n.0, sym (take_all (i + 1) g (omega arith)) ∙ ap (take (i + 1)) (sym same) ∙ n.1, n.2)
 
-module _ (p : Reception) where
-  pub too_many : 96 < length p.symbols → collected p ≡ Err Extent
-  too_many l = ap (λ b. require b Extent (ended_whole p.ending p.symbols)) (lt-leb (length p.symbols) 96 l)
+module _ (p : Reception) (few : length p.symbols ≤ 96) where
+  not_too_many : collected p ≡ ended_whole p.ending p.symbols
+  not_too_many = ap (λ b. require b Extent (ended_whole p.ending p.symbols)) (le-leb (length p.symbols) 96 few)
 
-  module _ (few : length p.symbols ≤ 96) where
-    not_too_many : collected p ≡ ended_whole p.ending p.symbols
-    not_too_many = ap (λ b. require b Extent (ended_whole p.ending p.symbols)) (le-leb (length p.symbols) 96 few)
+  pub faulted : (f : Fault) → p.ending ≡ fault f → collected p ≡ Err (Faulty f)
+  faulted f e = not_too_many ∙ ap (λ z. ended_whole z p.symbols) e
 
-    pub faulted : (f : Fault) → p.ending ≡ fault f → collected p ≡ Err (Faulty f)
-    faulted f e = not_too_many ∙ ap (λ z. ended_whole z p.symbols) e
-
-    pub some : p.ending ≡ whole → 0 < length p.symbols → collected p ≡ Ok p.symbols
-    some e l = not_too_many ∙ ap (λ z. ended_whole z p.symbols) e ∙ ap (λ b. require b Extent (Ok p.symbols)) (lt-ltb 0 (length p.symbols) l)
+  pub some : p.ending ≡ whole → 0 < length p.symbols → collected p ≡ Ok p.symbols
+  some e l = not_too_many ∙ ap (λ z. ended_whole z p.symbols) e ∙ ap (λ b. require b Extent (Ok p.symbols)) (lt-ltb 0 (length p.symbols) l)

@@ -8,7 +8,7 @@ use Rattle.refusal.specs.declared.Refusal.{Refusal}
 use Rattle.refusal.specs.declared.Refusal.TheVariants.{Extent, Spoiled as Spoilt, Count, Pad, Sum, «Type» as TypeOctet, Range, Address, Weak, Other, Muted}
 use Rattle.radio.specs.declared.symbol.Symbol.{Symbol}
 use Rattle.radio.specs.declared.symbol.Symbol.TheVariants.{Clean, Spoiled}
-use Rattle.radio.specs.Reception.{Reception, Ending, whole, fault}
+use Rattle.radio.specs.Reception.{Reception, Ending, whole, fault, any_octet}
 use Rattle.message.specs.Message.{Octets, at, kind, head_length, source, destination, sum_field, Addressed, Lawful, within, addressed, all_octets}
 use Rattle.message.proofs.Format.{within_parts, within_from, decides_addressed}
 use Rattle.station.specs.declared.filters.Filters.{Filters}
@@ -20,7 +20,8 @@ use Rattle.station.proofs.Collecting.{some as taken}
 use Rattle.station.proofs.Judged.{passes, goes_on, all_blank}
 use Rattle.station.proofs.Spoilt.{few_part}
 use Rattle.station.proofs.Sums.{decides_octets, sum_accepted}
-use Rattle.station.proofs.Written.{Agree, few_marked, marked_few, agree_length, agree_append, agree_take, agree_drop, agree_filled, agree_zeros, zeros_agree, values, first_agrees}
+use Rattle.radio.proofs.Honesty.{written_length, written_append}
+use Rattle.station.proofs.Written.{Agree, few_marked, marked_few, agree_take, agree_drop, agree_filled, agree_zeros, zeros_agree, values, first_agrees}
 use Rattle.station.proofs.Worked.{worked_out}
 
 -- a count rounded up is not below it, and less than a unit above it
@@ -182,7 +183,7 @@ module _ (u : ℕ) (some : 1 ≤ u) (ss : List Symbol) (m : List ℕ) where
         let back : Agree (drop (number ss) ss) (replicate (rounded u (length m) - length m) 0) =
         subst (λ (k : ℕ). Agree (drop (number ss) ss) (replicate k 0)) zeros (agree_zeros (drop (number ss) ss) steps.pad) in
         subst (λ (xs : List Symbol). Agree xs (padded u m)) (take-append-drop (number ss) ss)
-        (agree_append (take (number ss) ss) (drop (number ss) ss) m (replicate (rounded u (length m) - length m) 0) front back)
+        (written_append any_octet (take (number ss) ss) (drop (number ss) ss) m (replicate (rounded u (length m) - length m) 0) front back)
 
   -- a lawful message that agrees with what was heard, few octets being spoiled, is the one judged
   judged_complete : Lawful m → Agree ss (padded u m) → few_spoiled ss ≡ true → judged u ss ≡ Ok m
@@ -193,7 +194,7 @@ module _ (u : ℕ) (some : 1 ≤ u) (ss : List Symbol) (m : List ℕ) where
       let least = (rounded_least u n some).0 in
       let is : number ss ≡ n = number_agrees ss m (replicate k 0) (omega (arith, s.0)) a few ∙ l.number in
       let count : length ss ≡ rounded u n =
-      agree_length ss (padded u m) a ∙ length-append m (replicate k 0) ∙ ap (λ z. n + z) (length-replicate k 0) ∙ whole n (rounded u n) least in
+      written_length any_octet ss (padded u m) a ∙ length-append m (replicate k 0) ∙ ap (λ z. n + z) (length-replicate k 0) ∙ whole n (rounded u n) least in
       let front : Agree (take n ss) m = subst (Agree (take n ss)) (take_at m (replicate k 0) n refl) (agree_take n ss (padded u m) a) in
       let back : Agree (drop n ss) (replicate k 0) = subst (Agree (drop n ss)) (drop_at m (replicate k 0) n refl) (agree_drop n ss (padded u m) a) in
       let one = few_part n ss few in
@@ -295,7 +296,7 @@ module _ (own strength u : ℕ) (f : Filters) (r : Reception) (m : List ℕ) (so
       let k = rounded u (length m) - length m in
       let least = (rounded_least u (length m) some).0 in
       let most = at_most u (length m) some small s.1 in
-      let count = agree_length ss (padded u m) near.agrees.agrees ∙ length-append m (replicate k 0) ∙ ap (λ z. length m + z) (length-replicate k 0) in
+      let count = written_length any_octet ss (padded u m) near.agrees.agrees ∙ length-append m (replicate k 0) ∙ ap (λ z. length m + z) (length-replicate k 0) in
       let got = taken r (omega arith) near.agrees.ended (omega (arith, s.0)) in
       ap (λ z. then_check (then_check z (judged u)) (passed own f strength)) got ∙ ap (λ z. then_check z (passed own f strength)) j ∙ pass_right own f strength m h.2
 

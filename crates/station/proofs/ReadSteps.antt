@@ -1,5 +1,5 @@
 -- What a read that opens a reception answers and leaves. Assumes nothing.
-use Rattle.std.proofs.Common.{◌≡◌, ℕ, ◌≤◌, min, true, cond, leb, List, [], ◌∷◌, Ok, Err, sym, refl, ap, ◌∙◌, arith}
+use Rattle.std.proofs.Common.{◌≡◌, ℕ, ◌<◌, ◌≤◌, ◌⊎◌, inl, inr, min, true, cond, leb, List, [], ◌∷◌, Ok, Err, sym, refl, ap, ◌∙◌, arith}
 use Rattle.std.proofs.lemmas.Bool.{and_from, le-leb}
 use Rattle.refusal.specs.declared.Refusal.{Refusal}
 use Rattle.refusal.specs.declared.Refusal.TheVariants.{Short, Unit as UnitOver}
@@ -10,9 +10,17 @@ use Rattle.message.specs.Message.{kind, destination}
 use Rattle.station.specs.declared.filters.Filters.{Filters}
 use Rattle.station.specs.Judging.{require, then_check, believed, filtered, passed, received, of_coming, reading, listened, line_left}
 
--- a unit that is answered as at most 24 is the line's unit
-pub unit_is : (h : Heard) (u : ℕ) → u ≡ min (unit h) 65535 → u ≤ 24 → u ≡ unit h
-unit_is h u e l = omega arith
+-- a unit n is answered as `a`; the small unit made of that is n
+pub unit_is : (n a u : ℕ) → a ≡ min n 65535 → (1 ≤ a) × (a ≤ 24) × (u ≡ a) → u ≡ n
+unit_is n a u e p = omega (arith, p.1, p.2)
+
+-- where no small unit is made of it, n is over 24
+pub unit_wide : (n a : ℕ) → 1 ≤ n → a ≡ min n 65535 → (a ≡ 0) ⊎ (24 < a) → 24 < n
+unit_wide n a some e w =
+    elim w [
+      | inl none ↦ absurd (omega (arith, some))
+      | inr wide ↦ omega arith
+    ]
 
 pub unit_some : (h : Heard) → Sound h → 1 ≤ unit h
 unit_some h s = (every_pile h.pile).positive h.ground_unit s.grounded

@@ -46,18 +46,6 @@ marked_few (Clean v ∷ ss) h = marked_one ss h.1
 marked_few (Spoiled ∷ ss) h = absurd (clash (sym h.0))
 
 -- agreement, part by part
-pub agree_length : (ss : List Symbol) (ws : List ℕ) → Agree ss ws → length ss ≡ length ws
-agree_length [] [] a = refl
-agree_length [] (w ∷ ws) a = absurd a
-agree_length (s ∷ ss) [] a = absurd a
-agree_length (s ∷ ss) (w ∷ ws) a = ap suc (agree_length ss ws a.1)
-
-pub agree_append : (ss ts : List Symbol) (ws vs : List ℕ) → Agree ss ws → Agree ts vs → Agree (ss ++ ts) (ws ++ vs)
-agree_append [] ts [] vs a b = b
-agree_append [] ts (w ∷ ws) vs a b = absurd a
-agree_append (s ∷ ss) ts [] vs a b = absurd a
-agree_append (s ∷ ss) ts (w ∷ ws) vs a b = (a.0, agree_append ss ts ws vs a.1 b)
-
 pub agree_take : (n : ℕ) (ss : List Symbol) (ws : List ℕ) → Agree ss ws → Agree (take n ss) (take n ws)
 agree_take zero ss ws a = tt
 agree_take (suc n) [] [] a = tt

@@ -3,3 +3,4 @@ pub mod Nearness
 pub mod Judging
 pub mod Counting
 pub mod Exactness
+pub mod Units

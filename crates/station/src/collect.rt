@@ -14,9 +14,7 @@ pub(crate) fn collect<L: Line>(line: &mut L) -> Result<ArrayVec<Symbol, 96>, Ref
 {
     let mut symbols = ArrayVec::new();
     while let Some(symbol) = line.take()? {
-        if symbols.try_push(symbol).is_err() {
-            return Err(Refusal::Extent);
-        }
+        symbols.try_push(symbol).map_err(|_| Refusal::Extent)?;
     }
     if symbols.is_empty() {
         return Err(Refusal::Extent);

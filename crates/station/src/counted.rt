@@ -64,8 +64,7 @@ impl Counted {
     pub(crate) fn destination(&self) -> Option<u16>
         ensures { result ≡ destination self.now }
     {
-        let octets = self.as_slice();
-        (octets[1] == 3).then_some(word(octets, 2))
+        (self.kind() == 3).then_some(word(self.as_slice(), 2))
     }
 
     pub(crate) fn source(&self) -> u16
@@ -113,9 +112,7 @@ impl Counted {
         requires { place < length self }
         ensures { result ≡ sum_checked (slice_set self place (missing_octet place self)) }
     {
-        let Ok(octet) = u8::try_from(self.missing(place)) else {
-            return Err(Refusal::Sum);
-        };
+        let octet = u8::try_from(self.missing(place)).map_err(|_| Refusal::Sum)?;
         self.octets[place] = octet;
         self.check_sum()
     }

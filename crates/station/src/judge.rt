@@ -2,22 +2,23 @@ ghost use Rattle.std.specs.Prelude.{◌≡◌, ◌≤◌, true, not, length, Ok,
 ghost use Rattle.refusal.specs.declared.Refusal.TheVariants.{Spoiled as Spoilt};
 ghost use Rattle.station.specs.Judging.{require, is_clean, few_spoiled, one_spoiled, blank, mended, summed};
 ghost use Rattle.station.specs.Counting.{Opens};
+ghost use Rattle.station.specs.Units.{octets_in};
 
 use crate::counted::Counted;
-use crate::line_unit::LineUnit;
+use crate::small_unit::SmallUnit;
 use radio::symbol::Symbol;
 use refusal::Refusal;
 
 /// The octets of the message that the symbols open with, the spoiled one worked out.
-pub(crate) fn judge(symbols: &[Symbol], unit: LineUnit) -> Result<Counted, Refusal>
-    ensures { result ≡ summed unit.octets symbols.now }
+pub(crate) fn judge(symbols: &[Symbol], unit: SmallUnit) -> Result<Counted, Refusal>
+    ensures { result ≡ summed (octets_in unit) symbols.now }
 {
     work_out(count(symbols, unit)?)
 }
 
 /// The symbols of the message by its Number, if few are spoiled, as many came, and behind the end all are 00.
-fn count(symbols: &[Symbol], unit: LineUnit) -> Result<&[Symbol], Refusal>
-    ensures { MatchResult result (λ m. Opens unit.octets symbols.now m.now) (λ e. summed unit.octets symbols.now ≡ Err e) }
+fn count(symbols: &[Symbol], unit: SmallUnit) -> Result<&[Symbol], Refusal>
+    ensures { MatchResult result (λ m. Opens (octets_in unit) symbols.now m.now) (λ e. summed (octets_in unit) symbols.now ≡ Err e) }
 {
     check_spoiled(symbols)?;
     let [Symbol::Clean(number), ..] = symbols else {

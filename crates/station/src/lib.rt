@@ -7,7 +7,7 @@ pub mod exact;
 mod fields;
 pub mod filters;
 mod judge;
-mod line_unit;
 mod receive;
 pub mod rounding;
+pub mod small_unit;
 pub mod station;

@@ -4,8 +4,8 @@ ghost use Rattle.station.specs.Filtering.{own_address, filters_of, off, with_str
 ghost use Rattle.station.specs.Judging.{reading, told, buffer_left, line_left};
 
 use crate::filters::{Facts, Filters};
-use crate::line_unit::LineUnit;
 use crate::receive::receive;
+use crate::small_unit::SmallUnit;
 use radio::line::Line;
 use refusal::Refusal;
 
@@ -47,9 +47,11 @@ impl Station {
     }
 
     /// Mutes one of the types 0 to 3, or unmutes it; `Argument`, and nothing changed, for another type.
+    // a number and no enum of the four types: every number may be asked for, and is answered
     pub fn mute(&mut self, kind: u8, on: bool) -> Result<(), Refusal>
         ensures { MatchResult result (λ _. (kind ≤ 3) × (own_address self.new ≡ own_address self.old) × (filters_of self.new ≡ with_mute kind on (filters_of self.old))) (λ e. (3 < kind) × (e ≡ Argument) × (self.new ≡ self.old)) }
     {
+        // a test of the number, since no proof closed over what `get_mut` lends
         if kind > 3 {
             return Err(Refusal::Argument);
         }
@@ -59,6 +61,7 @@ impl Station {
 
     /// Opens one reception of the line and answers what is told of the message in it, with its payload at the start
     /// of `buffer`; or the first refusal, with the buffer as it was.
+    #[tactic(auto, using(crate::proofs::ReadSteps::unit_wide, crate::proofs::ReadSteps::unit_some))]
     pub fn read<L: Line>(
         &self,
         line: &mut L,
@@ -72,7 +75,8 @@ impl Station {
         if buffer.len() < 66 {
             return Err(Refusal::Short);
         }
-        let unit = LineUnit::of(line)?;
+        let octets = line.unit_of();
+        let unit = SmallUnit::of(octets)?;
         line.open()?;
         let message = receive(line, unit)?;
         let facts = message.facts(strength);

@@ -15,8 +15,8 @@ pub fn octets(heap: Global, word: &[u8]) -> Result<Vec<u8>, Stop>
     pairs(heap, word)
 }
 
-// Not the kit's hex decoder: that refuses an odd length before a byte that is no digit.
 /// Octets of two hex digits each.
+// Not the kit's hex decoder: that refuses an odd length before a byte that is no digit.
 fn pairs(heap: Global, word: &[u8]) -> Result<Vec<u8>, Stop>
     ensures { Told vec_items result (pairs_read word.now) }
 {
@@ -25,9 +25,8 @@ fn pairs(heap: Global, word: &[u8]) -> Result<Vec<u8>, Stop>
         if pair.len() < 2 {
             return Err(Stop::Unread("an octet has two hex digits"));
         }
-        let Some(x) = octet(pair) else {
-            return Err(Stop::Unread("octets are hex digits without blanks, or - for none"));
-        };
+        let wrong = Stop::Unread("octets are hex digits without blanks, or - for none");
+        let x = octet(pair).ok_or(wrong)?;
         octets.push(x)?;
     }
     Ok(octets)

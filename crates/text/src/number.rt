@@ -2,6 +2,7 @@ ghost use Rattle.std.specs.Prelude.{◌≡◌, ◌≤◌, IfSome};
 ghost use Rattle.text.specs.Figures.{number_word};
 
 /// A decimal number up to `most`.
+// Not `parse`: that takes a sign in front of the digits.
 pub fn number(word: &[u8], most: u32) -> Option<u32>
     ensures value { result ≡ number_word most word.now }
     ensures bound { IfSome result (λ n. n ≤ most) }

@@ -51,8 +51,8 @@ impl fmt::Display for Tenths {
     }
 }
 
-// Not one form with `Tenths`: it would be handed the count of figures behind the point, and name it at each use.
 /// A number of hundredths, written exactly: -5 is -0.05.
+// Not one struct with `Tenths`: an alias of a tuple struct makes no values, so both public constructors would stay.
 #[derive(Clone, Copy)]
 pub struct Hundredths(pub i16);
 

@@ -11,6 +11,7 @@ use crate::stop::Stop;
 use std::alloc::Global;
 
 /// The words of a line, parted by blanks, taken one after the other.
+// Each call has its clause about what is left: a caller knows of a call no more than its own clauses.
 #[derive(Drop)]
 pub struct Words<'a> {
     rest: &'a [u8],
@@ -44,9 +45,9 @@ impl<'a> Words<'a> {
         self.take().ok_or(Stop::Unread(missing))
     }
 
-    // The three that follow take no closure for the reading: to want a word and read it is one expression.
-
     /// The next word as a decimal number up to `most`.
+    // Here and in the two below no closure reads the word: each call would be longer, and its clause would follow
+    // from the closure's only by an answer.
     pub fn number(
         &mut self,
         most: u32,
@@ -87,9 +88,10 @@ impl<'a> Words<'a> {
     pub fn end(&mut self) -> Result<(), Stop>
         ensures { Told (λ u. u) result (whole tt (to_come self.old)) }
     {
-        match self.take() {
-            Some(_) => Err(Stop::Unread("too many words")),
-            None => Ok(()),
+        if self.is_empty() {
+            Ok(())
+        } else {
+            Err(Stop::Unread("too many words"))
         }
     }
 }

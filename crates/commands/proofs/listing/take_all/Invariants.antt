@@ -5,7 +5,7 @@ abbrev pub invariant-loop-symbol : goal.invariant-loop-symbol
 invariant-loop-symbol g l =
     ((g.L.Line.heard l.line).coming ≡ (g.L.Line.heard l.initial.line).coming) ×
     ((g.L.Line.heard l.line).present.ending ≡ (g.L.Line.heard l.initial.line).present.ending) ×
-    (vec_items l.taken ++ (g.L.Line.heard l.line).present.symbols ≡ vec_items l.initial.taken ++ (g.L.Line.heard l.initial.line).present.symbols)
+    (vec_items l.taken ++ (g.L.Line.heard l.line).present.symbols ≡ (g.L.Line.heard l.initial.line).present.symbols)
 
 abbrev pub decreases-loop-symbol : goal.decreases-loop-symbol
 decreases-loop-symbol g l = length (g.L.Line.heard l.line).present.symbols

@@ -7,7 +7,7 @@ use Rattle.radio.specs.declared.symbol.Symbol.{Symbol}
 use Rattle.radio.specs.Lines.{next, past}
 use Rattle.radio.proofs.Taking.{more_next, none_next, fault_next}
 use Rattle.station.specs.Judging.{collected}
-use Rattle.station.proofs.Collecting.{taken_more, too_many, faulted, some}
+use Rattle.station.proofs.Collecting.{taken_more, faulted, some}
 use Rattle.station.proofs.collect.collect.Goals as goal
 
 pub returns-in_err-symbol : goal.returns-in_err-symbol
@@ -27,8 +27,8 @@ returns-in_err-symbol g c =
       left = t.left ∙ n.2;
     }
 
-pub returns-then-is_err : goal.returns-then-is_err
-returns-then-is_err g c =
+pub returns-in_err-map_err-clause-left : goal.returns-in_err-map_err-clause-left
+returns-in_err-map_err-clause-left g c =
     let h = g.L.Line.heard c.args.line.now in
     let q = g.L.Line.heard c.loop-symbol.line in
     let i = length c.loop-symbol.symbols.items in
@@ -37,7 +37,7 @@ returns-then-is_err g c =
     let o : Ok (Some s) ≡ next q.present = ap Ok (sym c.in-Some.is) ∙ t.answers in
     let n = more_next i h q c.loop-symbol.invariant.2 s o in
     let last : i ≡ 96 = search rules in
-    record { answers = too_many h.present (omega (arith, n.0)); left = t.left ∙ n.1 ∙ ap (λ k. past (k + 1) h) last }
+    t.left ∙ n.1 ∙ ap (λ k. past (k + 1) h) last
 
 pub loop-symbol-preserved : goal.loop-symbol-preserved
 loop-symbol-preserved g c =

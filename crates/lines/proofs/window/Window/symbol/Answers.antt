@@ -4,7 +4,8 @@ use Rattle.std.proofs.lemmas.Bool.{eq-eqb, ne_eqb, and_from, and_left, and_right
 use Rattle.radio.specs.declared.symbol.Symbol.TheVariants.{Clean, Spoiled}
 use Rattle.radio.specs.Bits.{bits}
 use Rattle.lines.specs.HeardBits.{symbol_here}
-use Rattle.lines.proofs.SignBits.{symbol_low, length_low}
+use Rattle.radio.proofs.LowBits.{length_low}
+use Rattle.lines.proofs.SignBits.{symbol_low}
 use Rattle.lines.proofs.window.Window.symbol.Goals as goal
 use Rattle.lines.proofs.window.Window.symbol.Goals.{else-self-eq1-via-then-self-eq1+else-self-eq0, else-self-eq1-via-else-self-eq1}
 
