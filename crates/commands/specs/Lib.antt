@@ -1,6 +1,8 @@
 pub mod Answers
 pub mod Endings
 pub mod Fields
+pub mod Hearings
+pub mod Printed
 pub mod Said
 pub mod Seals
 pub mod Syntax

@@ -4,6 +4,7 @@
 mod bodies;
 mod command;
 pub mod console;
+mod hearing;
 mod listing;
 mod parse;
 mod seal;

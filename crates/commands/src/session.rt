@@ -1,16 +1,19 @@
 //! The commands on a recording: each `hear` makes the line that the commands behind it work on.
+ghost use Rattle.std.specs.Prelude.{◌≡◌, [], IfOk, string_bytes};
+ghost use Rattle.text.specs.Words.{words_from};
+ghost use Rattle.commands.specs.Syntax.{line_read};
+ghost use Rattle.commands.specs.Printed.{line_text, brought, hearing_of};
+
 use crate::bodies::bodies;
 use crate::command::{Bottom, Command, Ear, Pile, Piles, Recording};
 use crate::console::Console;
-use crate::listing::listing;
+use crate::hearing::{blocks_reading, hearing};
 use crate::parse::parse;
 use crate::seal::seal;
 use crate::unit_line::UnitLine;
-use coding::block::Block;
 use lines::bit_line::BitLine;
 use lines::octet_line::OctetLine;
 use radio::line::Line;
-use reading::Reading;
 use standard::line::standard_reading;
 use std::alloc::{AllocError, Global};
 use std::io;
@@ -44,43 +47,25 @@ struct Session<'a, C: Console> {
 
 impl<'a, C: Console> Session<'a, C> {
     /// Prints what a recording holds and does the commands on a line over it, up to the next recording or the end.
+    // Two lines are made on the same bytes, one listed to its end: no copy can be derived for a struct with ghost fields.
     fn hear(&mut self, recording: &Recording) -> io::Result<Option<Recording>> {
+        let text = hearing(self.console.heap(), recording)?;
+        self.console.print(text.as_str())?;
         let bytes = recording.bytes.as_slice();
         match recording.ear {
-            Ear::Piled(Bottom::Octets, pile) => self.piled(
-                pile,
-                OctetLine::new(bytes),
-                OctetLine::new(bytes),
-            ),
-            Ear::Piled(Bottom::Bits, pile) => self.piled(
-                pile,
-                BitLine::new(bytes),
-                BitLine::new(bytes),
-            ),
-            Ear::Unit(unit) => self.on_line(UnitLine::new(bytes, unit), UnitLine::new(bytes, unit)),
+            Ear::Piled(Bottom::Octets, pile) => self.piled(pile, OctetLine::new(bytes)),
+            Ear::Piled(Bottom::Bits, pile) => self.piled(pile, BitLine::new(bytes)),
+            Ear::Unit(unit) => self.commands(UnitLine::new(bytes, unit)),
         }
     }
 
-    /// Lists what `heard` holds through a pile, and does the commands on `line` through the same pile.
-    // Two lines are made on the same bytes, one listed to its end: no copy can be derived for a struct with ghost fields.
-    fn piled<L: Line + Drop>(
-        &mut self,
-        pile: Pile,
-        heard: L,
-        line: L,
-    ) -> io::Result<Option<Recording>> {
+    /// Does the commands on a line through a pile.
+    fn piled<L: Line + Drop>(&mut self, pile: Pile, line: L) -> io::Result<Option<Recording>> {
         match pile {
-            Pile::Plain => self.on_line(heard, line),
-            Pile::Standard => self.on_line(standard_reading(heard), standard_reading(line)),
-            Pile::Blocks => self.on_line(blocks_reading(heard), blocks_reading(line)),
+            Pile::Plain => self.commands(line),
+            Pile::Standard => self.commands(standard_reading(line)),
+            Pile::Blocks => self.commands(blocks_reading(line)),
         }
-    }
-
-    /// Lists all that `heard` holds; `line`, over the same bytes, stays for the commands.
-    fn on_line<L: Line + Drop>(&mut self, heard: L, line: L) -> io::Result<Option<Recording>> {
-        let text = listing(self.console.heap(), heard)?;
-        self.console.print(text.as_str())?;
-        self.commands(line)
     }
 
     /// Does the commands up to the next recording, which it hands back, or to the end of the input.
@@ -101,12 +86,6 @@ impl<'a, C: Console> Session<'a, C> {
     }
 }
 
-/// Three Block layers over a line.
-fn blocks_reading<L: Line>(line: L) -> Reading<Block, Reading<Block, Reading<Block, L>>> {
-    let lowest = Reading::new(Block {}, line);
-    Reading::new(Block {}, Reading::new(Block {}, lowest))
-}
-
 /// What is printed for one line of input, nothing for a blank line and for a comment, and the recording that it brought.
 /// The line stands by for commands that read from it; there is none yet.
 fn answer<L: Line>(
@@ -114,7 +93,10 @@ fn answer<L: Line>(
     piles: Piles,
     text: &[u8],
     _line: &mut L,
-) -> Result<(String, Option<Recording>), AllocError> {
+) -> Result<(String, Option<Recording>), AllocError>
+    ensures printed { IfOk result (λ r. string_bytes r.0 ≡ line_text (line_read piles (words_from [] text.now))) }
+    ensures recorded { IfOk result (λ r. hearing_of r.1 ≡ brought (line_read piles (words_from [] text.now))) }
+{
     match parse(heap, piles, text) {
         Ok(Command::Nothing) => Ok((String::new(heap), None)),
         Ok(Command::Seal(fields)) => Ok((seal(heap, &fields)?, None)),

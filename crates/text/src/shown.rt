@@ -1,8 +1,13 @@
 //! How octets, addresses and decimal numbers are written.
-ghost use Rattle.std.specs.Prelude.{◌≡◌, Some};
-ghost use Rattle.text.specs.Texts.{octets_text, address_text, sign_text, tenths_text, hundredths_text};
+ghost use Rattle.std.specs.Prelude.{◌≡◌, ◌<◌, ◌≤◌, Some, length};
+ghost use Rattle.std.specs.Fmt.{WritesOnOk};
+ghost use Rattle.text.specs.Texts.{digit_text, octet_text, pairs_text, octets_text, address_text, sign_text, tenths_text, hundredths_text};
 
-use std::fmt;
+use arrayvec::ArrayVec;
+use std::{fmt, str};
+
+/// How many octets are laid out at once: each piece that is written costs a call.
+const AT_ONCE: usize = 32;
 
 /// Octets in capital hex, or `-` where there are none.
 #[derive(Clone, Copy)]
@@ -16,11 +21,48 @@ impl<'a> fmt::Display for Hex<'a> {
         if octets.is_empty() {
             return f.write_str("-");
         }
-        for &x in octets {
-            write!(f, "{x:02X}")?;
+        for some in octets.chunks(AT_ONCE) {
+            write_pairs(f, some)?;
         }
         Ok(())
     }
+}
+
+fn write_pairs<W: fmt::Write>(f: &mut fmt::Formatter<W>, octets: &[u8]) -> fmt::Result
+    requires { length octets.now ≤ 32 }
+    ensures { WritesOnOk W.Write.write_str_gives f.old result (pairs_text octets.now) f.new }
+{
+    let text = pairs(octets);
+    f.write_str(str::from_utf8(&text).unwrap())
+}
+
+/// The digits of octets in capital hex, two for each.
+fn pairs(octets: &[u8]) -> ArrayVec<u8, 64>
+    requires { length octets.now ≤ 32 }
+    ensures { result.items ≡ pairs_text octets.now }
+{
+    let mut text = ArrayVec::new();
+    for octet in octets {
+        let [high, low] = digits(*octet);
+        text.push(high);
+        text.push(low);
+    }
+    text
+}
+
+/// The two capital hex digits of an octet.
+pub fn digits(octet: u8) -> [u8; 2]
+    ensures { result ≡ octet_text octet }
+{
+    [digit(octet / 16), digit(octet % 16)]
+}
+
+/// A capital hex digit.
+fn digit(d: u8) -> u8
+    requires { d < 16 }
+    ensures { result ≡ digit_text d }
+{
+    if d < 10 { b'0' + d } else { b'A' + (d - 10) }
 }
 
 /// An address as four capital hex digits.
