@@ -34,6 +34,7 @@ pub trait Coding {
         ensures { take grouping.plain result ≡ grouping.read (take grouping.coded group.now) };
 
     /// The unit over a unit; at either, 65,535 stands for every larger one.
+    #[tactic(auto, using(crate::proofs::Units::unit_above))]
     fn unit_over(&self, unit: u16) -> u16
         ensures { (u : ℕ) → unit ≡ min u 65535 → result ≡ min (grouping.plain * u) 65535 }
     {

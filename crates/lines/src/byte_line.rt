@@ -92,6 +92,8 @@ impl<'a, M: Recorded> Line for ByteLine<'a, M> {
 }
 
 /// The place where the next reception starts, if one opens at or behind a place.
+// out of line: compiled into a loop that takes symbols too, the search is slower
+#[inline(never)]
 fn next_start<M: Recorded>(bytes: &[u8], from: usize) -> Option<usize>
     requires short { length bytes.now ≤ 65536 }
     requires within { from ≤ length (M.Recorded.recording.cells bytes.now) }

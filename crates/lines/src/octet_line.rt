@@ -3,7 +3,7 @@ ghost use Rattle.lines.specs.HeardOctets.{sign_here};
 ghost use Rattle.lines.specs.Recordings.{in_octets};
 
 use crate::byte_line::ByteLine;
-use crate::recorded::{Recorded, unless_end};
+use crate::recorded::{END, Recorded};
 use radio::medium::Octets;
 use radio::symbol::Symbol;
 use refusal::Cause;
@@ -12,7 +12,9 @@ use refusal::Cause;
 pub type OctetLine<'a> = ByteLine<'a, Octets>;
 
 /// The two octets of a sign.
-const SIGN: [u8; 2] = [0xF0, 0xCC];
+const SIGN_FIRST: u8 = 0xF0;
+
+const SIGN_SECOND: u8 = 0xCC;
 
 impl Recorded for Octets {
     ghost recording = { in_octets };
@@ -26,11 +28,12 @@ impl Recorded for Octets {
     }
 
     fn here(bytes: &[u8], place: usize) -> Result<Option<Symbol>, Cause> {
-        let octet = bytes.get(place).ok_or(Cause::Dry)?;
-        if sign_at(bytes, place) {
-            return Err(Cause::Cut);
+        match &bytes[place..] {
+            [] => Err(Cause::Dry),
+            [SIGN_FIRST, SIGN_SECOND, ..] => Err(Cause::Cut),
+            [END, ..] => Ok(None),
+            [octet, ..] => Ok(Some(Symbol::Clean(*octet))),
         }
-        Ok(unless_end(Symbol::Clean(*octet)))
     }
 
     fn behind_sign(bytes: &[u8], place: usize) -> Option<usize> {
@@ -43,5 +46,5 @@ fn sign_at(bytes: &[u8], place: usize) -> bool
     requires { place ≤ length bytes.now }
     ensures { result ≡ sign_here (drop place bytes.now) }
 {
-    bytes[place..].starts_with(&SIGN)
+    matches!(&bytes[place..], [SIGN_FIRST, SIGN_SECOND, ..])
 }

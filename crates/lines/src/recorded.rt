@@ -6,7 +6,7 @@ use radio::symbol::Symbol;
 use refusal::Cause;
 
 /// The octet that ends a reception whole.
-const END: Symbol = Symbol::Clean(0x33);
+pub(crate) const END: u8 = 0x33;
 
 /// How channel octets are recorded in bytes: as cells, of which each symbol takes the same number.
 // Bytes and place go as two: the functions are static, and the search asks for places at which no line stands.
@@ -40,5 +40,8 @@ pub trait Recorded {
 pub(crate) fn unless_end(symbol: Symbol) -> Option<Symbol>
     ensures { result ≡ unless_end symbol }
 {
-    if symbol == END { None } else { Some(symbol) }
+    match symbol {
+        Symbol::Clean(END) => None,
+        _ => Some(symbol),
+    }
 }

@@ -1,4 +1,4 @@
-ghost use Rattle.std.specs.Prelude.{◌≡◌, ◌*◌, ◌<◌, ◌≤◌, length, take, drop, slice_index};
+ghost use Rattle.std.specs.Prelude.{◌≡◌, ℕ, ◌+◌, ◌*◌, ◌<◌, ◌≤◌, length, take, drop, slice_index};
 ghost use Rattle.radio.specs.Bits.{bits_of};
 ghost use Rattle.lines.specs.HeardBits.{sign_here};
 ghost use Rattle.lines.specs.Looks.{FirstOfTen, SymbolIn, seen};
@@ -27,8 +27,7 @@ impl Window {
         requires within { place ≤ 8 * length bytes.now }
         ensures { seen result ≡ take 29 (drop place (bits_of bytes.now)) }
     {
-        let near: [u8; 8] = array::from_fn(|i| bytes.get(place / 8 + i).copied().unwrap_or(0));
-        let word = u64::from_le_bytes(near);
+        let word = u64::from_le_bytes(eight_from(bytes, place / 8));
         Window {
             word: ((word >> (place % 8)) & 0x1FFF_FFFF) as u32,
             count: (8 * bytes.len() - place).min(29),
@@ -62,5 +61,17 @@ impl Window {
         } else {
             Some(Symbol::Spoiled)
         }
+    }
+}
+
+/// The eight bytes from a place on, with zeros for those behind the end.
+fn eight_from(bytes: &[u8], first: usize) -> [u8; 8]
+    requires { first ≤ length bytes.now }
+    ensures { (k : ℕ) → k < 8 → slice_index result k ≡ slice_index bytes.now (first + k) }
+{
+    // Eight bytes are read at once, and one by one only where fewer are left.
+    match bytes[first..].first_chunk() {
+        Some(group) => *group,
+        None => array::from_fn(|i| bytes.get(first + i).copied().unwrap_or(0)),
     }
 }

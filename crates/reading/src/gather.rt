@@ -3,7 +3,6 @@ ghost use Rattle.radio.specs.Reception.{raised};
 ghost use Rattle.radio.specs.Lines.{past};
 ghost use Rattle.reading.specs.Gather.{Gathered};
 
-use arrayvec::ArrayVec;
 use radio::line::Line;
 use radio::symbol::Symbol;
 use refusal::Fault;
@@ -32,18 +31,22 @@ impl From<Raised> for Fault {
     }
 }
 
-/// Takes up to `want` symbols of the present reception: fewer only at the whole end.
-pub(crate) fn gather<L: Line>(below: &mut L, want: usize) -> Result<ArrayVec<Symbol, 8>, Raised>
+/// Takes up to `want` symbols of the present reception into the start of `group`, and says how many came:
+/// fewer only at the whole end.
+pub(crate) fn gather<L: Line>(
+    below: &mut L,
+    want: usize,
+    group: &mut [Symbol; 8],
+) -> Result<usize, Raised>
     requires { want ≤ 8 }
-    ensures gives { Gathered want (L.Line.heard below.old).present result }
+    ensures gives { Gathered want (L.Line.heard below.old).present result group.new }
     ensures left { L.Line.heard below.new ≡ past want (L.Line.heard below.old) }
 {
-    let mut group = ArrayVec::new();
-    for _ in 0..want {
+    for i in 0..want {
         match below.take()? {
-            Some(s) => group.push(s),
-            None => return Ok(group),
+            Some(s) => group[i] = s,
+            None => return Ok(i),
         }
     }
-    Ok(group)
+    Ok(want)
 }

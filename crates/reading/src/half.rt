@@ -1,4 +1,4 @@
-ghost use Rattle.std.specs.Prelude.{◌≡◌, ◌+◌, min, length, Some};
+ghost use Rattle.std.specs.Prelude.{◌≡◌, ◌+◌, min, take, Some};
 ghost use Rattle.refusal.specs.declared.Cause.TheVariants.{Torn};
 ghost use Rattle.reading.specs.Half.{fresh};
 ghost use Rattle.reading.specs.Meaning.{meaning, meaning_sound, Filled};
@@ -7,7 +7,6 @@ use crate::Reading;
 use crate::gather::gather;
 use arrayvec::ArrayVec;
 use coding::Coding;
-use coding::group::filled_up;
 use radio::line::Line;
 use radio::symbol::Symbol;
 use refusal::{Cause, Fault, Refusal};
@@ -20,20 +19,20 @@ impl<C: Coding, L: Line> Reading<C, L> {
         Reading {
             below,
             coding,
-            waiting: ArrayVec::new(),
+            waiting: ArrayVec::new().into_iter(),
             given: 0,
             torn: None,
         }
     }
 
     /// Decodes a whole group, whose symbols then wait to be taken.
-    fn decode(&mut self, group: &[Symbol])
-        requires { length group.now ≡ C.Coding.grouping.coded }
-        ensures { self.new ≡ record self.old { waiting = record { items = C.Coding.grouping.read group.now }; given = min (self.old.given + C.Coding.grouping.plain) 65535 } }
+    fn decode(&mut self, group: &[Symbol; 8])
+        ensures { self.new ≡ record self.old { waiting = C.Coding.grouping.read (take C.Coding.grouping.coded group.now); given = min (self.old.given + C.Coding.grouping.plain) 65535 } }
     {
         let plain = self.coding.plain();
-        self.waiting = ArrayVec::from(self.coding.decode(&filled_up(group, Symbol::Spoiled)));
-        self.waiting.truncate(plain);
+        let mut symbols = ArrayVec::from(self.coding.decode(group));
+        symbols.truncate(plain);
+        self.waiting = symbols.into_iter();
         self.given = self.given.saturating_add(plain as u16);
     }
 
@@ -54,20 +53,21 @@ impl<C: Coding, L: Line> Reading<C, L> {
     /// With no symbol waiting, reads the next group below, if one comes.
     fn refill(&mut self) -> Result<(), Fault>
         ensures same { meaning C.Coding.grouping L.Line.heard self.new ≡ meaning C.Coding.grouping L.Line.heard self.old }
-        ensures filled { Filled self.new.waiting.items (meaning C.Coding.grouping L.Line.heard self.old).present result }
+        ensures filled { Filled self.new.waiting (meaning C.Coding.grouping L.Line.heard self.old).present result }
     {
-        if !self.waiting.is_empty() {
+        if !self.waiting.as_slice().is_empty() {
             return Ok(());
         }
         if let Some(fault) = self.torn {
             return Err(fault);
         }
         let want = self.coding.coded();
-        let group = gather(&mut self.below, want)?;
-        if group.is_empty() {
+        let mut group = [Symbol::Spoiled; 8];
+        let came = gather(&mut self.below, want, &mut group)?;
+        if came == 0 {
             return Ok(());
         }
-        if group.len() < want {
+        if came < want {
             return Err(self.tear());
         }
         self.decode(&group);
@@ -82,15 +82,19 @@ impl<C: Coding, L: Line> Line for Reading<C, L> {
 
     fn open(&mut self) -> Result<(), Refusal> {
         self.below.open()?;
-        self.waiting.clear();
+        self.waiting = ArrayVec::new().into_iter();
         self.given = 0;
         self.torn = None;
         Ok(())
     }
 
     fn take(&mut self) -> Result<Option<Symbol>, Fault> {
+        // most takes end here, and a return of its own keeps their way short
+        if let Some(symbol) = self.waiting.next() {
+            return Ok(Some(symbol));
+        }
         self.refill()?;
-        Ok(self.waiting.pop_at(0))
+        Ok(self.waiting.next())
     }
 
     fn unit_of(&self) -> u16 {

@@ -1,7 +1,7 @@
 //! The reading half of a layer: over any line, itself a line.
 #![tactic(auto)]
 
-use arrayvec::ArrayVec;
+use arrayvec::IntoIter;
 use coding::Coding;
 use radio::line::Line;
 use radio::symbol::Symbol;
@@ -16,7 +16,7 @@ mod half;
 pub struct Reading<C: Coding, L: Line> {
     below: L,
     coding: C,
-    waiting: ArrayVec<Symbol, 8>,
+    waiting: IntoIter<Symbol, 8>,
     given: u16,
     torn: Option<Fault>,
 }

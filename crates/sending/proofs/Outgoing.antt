@@ -1,8 +1,8 @@
 -- What a sending half comes to. Assumes nothing.
-use Rattle.std.proofs.Common.{◌≡◌, ℕ, zero, suc, ◌+◌, ◌-◌, ◌*◌, ◌/◌, ◌%◌, ◌<◌, ◌≤◌, Bool, true, false, cond, ◌||◌, eqb, leb, List, [], ◌∷◌, ◌++◌, length, None, Ok, Err, Option, sym, refl, ap, ◌∙◌, ⊎_elim, mul_assoc, mul_comm, add-mul, one-mul, div-add-mod', mul-div_cancel, add-one, arith, eq-eqb, ne_eqb, eqb-true, le-leb}
+use Rattle.std.proofs.Common.{◌≡◌, ℕ, zero, suc, ◌+◌, ◌-◌, ◌*◌, ◌/◌, ◌%◌, ◌<◌, ◌≤◌, take, replicate, Bool, true, false, cond, ◌||◌, eqb, leb, List, [], ◌∷◌, ◌++◌, length, None, Ok, Err, Option, sym, refl, ap, ◌∙◌, ⊎_elim, mul_assoc, mul_comm, add-mul, one-mul, div-add-mod', mul-div_cancel, add-one, arith, eq-eqb, ne_eqb, eqb-true, le-leb}
 use native.Mathlib.Bridge.{le_prop}
 use native.Mathlib.Nat.{div-add-mod, mul-div_right, mul-mod_left, mul-mod_right}
-use Rattle.std.proofs.lemmas.List.{length_push}
+use Rattle.std.proofs.lemmas.List.{length_push, append_assoc, take_all, take-append-le, replicate-append-replicate}
 use Rattle.std.proofs.lemmas.Bool.{and_parts, and_from, or_cases}
 use Rattle.arrayvec.specs.ArrayVec.{ArrayVec, array_vec_len}
 use Rattle.refusal.specs.declared.Refusal.{Refusal}
@@ -141,6 +141,18 @@ module _ (c : Grouping) (h : List ℕ) (b : State) (p k : ℕ) (form : Ok tt ≡
     once_put = λ xs. ap (λ l. b'.once_put (regroup c.plain c.code l xs)) none ∙ r.once_put (regroup c.plain c.code [] xs);
     goes_on = half_goes c h h' b b' r.goes_on;
   }
+
+-- octets and one more behind them, of an array that has them at its start and is filled up with that one
+pub one_behind : (h : List ℕ) (x : ℕ) → length h < 8 → take (length h + 1) (take 8 h ++ replicate (8 - length h) x) ≡ h ++ x ∷ []
+one_behind h x few =
+    let r : List ℕ = replicate (7 - length h) x in
+    let more : replicate (8 - length h) x ≡ x ∷ r = ap (λ n. replicate n x) (let m : 8 - length h ≡ 1 + (7 - length h) = omega arith in m) ∙ sym (replicate-append-replicate 1 (7 - length h) x) in
+    let long : length (h ++ x ∷ []) ≡ length h + 1 = length_push h x in
+    ap (λ z. take (length h + 1) (z ++ replicate (8 - length h) x)) (take_all 8 h (omega arith))
+    ∙ ap (λ z. take (length h + 1) (h ++ z)) more
+    ∙ ap (take (length h + 1)) (sym (append_assoc h (x ∷ []) r))
+    ∙ take-append-le (length h + 1) (h ++ x ∷ []) r (omega (arith, long))
+    ∙ take_all (length h + 1) (h ++ x ∷ []) (omega (arith, long))
 
 -- putting
 module _ (c : Grouping) (h : List ℕ) (b : State) (x n : ℕ) (owes : turn_over c.plain c.coded b.turn (length h) ≡ Owing n) (some : 0 < n) where

@@ -1,4 +1,4 @@
-ghost use Rattle.std.specs.Prelude.{◌≡◌, [], length};
+ghost use Rattle.std.specs.Prelude.{◌≡◌, ◌+◌, ◌<◌, [], ◌∷◌, ◌++◌, length, take};
 ghost use Rattle.radio.specs.Outlets.{answer, put_refusal, Leaves, Put};
 ghost use Rattle.sending.specs.Outgoing.{over_outlet, outgoing, outgoing_sound, below_of, SendsCoding};
 
@@ -39,13 +39,25 @@ impl<C: Coding, O: Outlet> Sending<C, O> {
     }
 }
 
-/// Puts a full group below in its code.
-fn put_group<C: Coding, O: Outlet>(coding: &C, below: &mut O, group: &[u8]) -> Result<(), Refusal>
-    requires { length group.now ≡ C.Coding.grouping.plain }
-    ensures answers { result ≡ answer (put_refusal C.Coding.grouping.coded (O.Outlet.state below.old).turn) }
-    ensures leaves { Leaves (Put (C.Coding.grouping.code group.now)) O.Outlet.state result below.old below.new }
+/// These octets and one more behind them, at the start of an array of 8.
+#[tactic(auto, using(crate::proofs::Outgoing::one_behind))]
+fn with_octet(others: &[u8], octet: u8) -> [u8; 8]
+    requires { length others.now < 8 }
+    ensures { take (length others.now + 1) result ≡ others.now ++ octet ∷ [] }
 {
-    let code = coding.encode(&filled_up(group, 0));
+    filled_up(others, octet)
+}
+
+/// Puts the group at the start of `group` below in its code.
+fn put_group<C: Coding, O: Outlet>(
+    coding: &C,
+    below: &mut O,
+    group: &[u8; 8],
+) -> Result<(), Refusal>
+    ensures answers { result ≡ answer (put_refusal C.Coding.grouping.coded (O.Outlet.state below.old).turn) }
+    ensures leaves { Leaves (Put (C.Coding.grouping.code (take C.Coding.grouping.plain group.now))) O.Outlet.state result below.old below.new }
+{
+    let code = coding.encode(group);
     put_all(below, &code[..coding.coded()])
 }
 
@@ -70,11 +82,14 @@ impl<C: Coding, O: Outlet> Outlet for Sending<C, O> {
         let Turn::Owing(1..) = self.turn_of() else {
             return Err(Refusal::Turn);
         };
-        self.held.push(octet);
-        if self.held.len() < self.coding.plain() {
+        let others = self.coding.plain() - 1;
+        if self.held.len() < others {
+            self.held.push(octet);
             return Ok(());
         }
-        let group = self.held.take();
+        // all the others of its group are held back: their number, which the compiler knows, spares a loop
+        let group = with_octet(&self.held[..others], octet);
+        self.held = ArrayVec::new();
         put_group(&self.coding, &mut self.below, &group)
     }
 

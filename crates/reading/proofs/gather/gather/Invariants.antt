@@ -2,11 +2,10 @@ use Rattle.std.proofs.Common.{◌≡◌, ◌≤◌, length, take}
 use Rattle.radio.specs.Lines.{past}
 use Rattle.reading.proofs.gather.gather.Given as goal
 
-abbrev pub invariant-loop : goal.invariant-loop
-invariant-loop g l =
+abbrev pub invariant-loop-i : goal.invariant-loop-i
+invariant-loop-i g l =
     let h = g.L.Line.heard l.initial.below in
-    record {
-      came : l.counter ≤ length h.present.symbols;
-      items : l.group.items ≡ take l.counter h.present.symbols;
-      left : g.L.Line.heard l.below ≡ past l.counter h;
-    }
+    (l.i ≤ length h.present.symbols) ×
+    (take l.i l.group ≡ take l.i h.present.symbols) ×
+    (g.L.Line.heard l.below ≡ past l.i h) ×
+    (length l.group ≡ 8)
