@@ -48,7 +48,11 @@ impl<R: Read + Drop, W: Write + Drop> Console for Terminal<R, W> {
     }
 
     fn read(&mut self) -> io::Result<Option<Vec<u8>>> {
-        self.lines.next().transpose()
+        match self.lines.next() {
+            // a line goes straight on: `transpose` copies the room that an error would take, too
+            Some(Ok(line)) => Ok(Some(line)),
+            rest => rest.transpose(),
+        }
     }
 
     fn print(&mut self, text: &str) -> io::Result<()>

@@ -21,13 +21,13 @@ fn pairs(heap: Global, word: &[u8]) -> Result<Vec<u8>, Stop>
     ensures { Told vec_items result (pairs_read word.now) }
 {
     let mut octets = Vec::new(heap);
-    for pair in word.chunks(2) {
-        if pair.len() < 2 {
-            return Err(Stop::Unread("an octet has two hex digits"));
-        }
+    for pair in word.chunks_exact(2) {
         let wrong = Stop::Unread("octets are hex digits without blanks, or - for none");
         let x = octet(pair).ok_or(wrong)?;
         octets.push(x)?;
+    }
+    if word.len() % 2 == 1 {
+        return Err(Stop::Unread("an octet has two hex digits"));
     }
     Ok(octets)
 }
